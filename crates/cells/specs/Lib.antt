@@ -1,0 +1,4 @@
+-- Numbers of tables, readings, limits.
+pub mod Cell
+pub mod Reading
+pub mod Limits

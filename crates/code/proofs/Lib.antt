@@ -1,0 +1,7 @@
+-- What holds of the listing: its length, where its pieces stand, what its words say, what it names.
+pub mod Length
+pub mod At
+pub mod Place
+pub mod Words
+pub mod Inside
+pub mod Accepted

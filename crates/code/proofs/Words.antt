@@ -1,0 +1,41 @@
+-- The words of a listing say its instructions, and no others.
+-- Assumes nothing: the words of any list of instructions read back, whatever its numbers.
+use Prim.Native.Nat.{_*_}
+use mathlib.Core.Path.{_≡_, refl, ap}
+use mathlib.Core.List.{List, [], _∷_}
+use native.Mathlib.Omega.{arith}
+use lib.ListN.{length, length-append}
+use Rattle.cells.specs.Limits.{wordsEach}
+use Rattle.program.specs.Program.{Program}
+use Rattle.code.specs.Op.{Op, call, schedule, branch, jump, future, return, faulty, words, emit, instructions}
+use Rattle.code.specs.Listing.{listing}
+
+-- what is written reads back
+pub emit-instructions : (os : List Op) → instructions (emit os) ≡ os
+emit-instructions [] = refl
+emit-instructions (call n ∷ os) = ap (λ l. call n ∷ l) (emit-instructions os)
+emit-instructions (schedule t ∷ os) = ap (λ l. schedule t ∷ l) (emit-instructions os)
+emit-instructions (branch d a ∷ os) = ap (λ l. branch d a ∷ l) (emit-instructions os)
+emit-instructions (jump a ∷ os) = ap (λ l. jump a ∷ l) (emit-instructions os)
+emit-instructions (future d a ∷ os) = ap (λ l. future d a ∷ l) (emit-instructions os)
+emit-instructions (return ∷ os) = ap (λ l. return ∷ l) (emit-instructions os)
+emit-instructions (faulty ∷ os) = ap (λ l. faulty ∷ l) (emit-instructions os)
+
+-- the words of the listing say the listing
+pub listing-words : (P : Program) → instructions (emit (listing P)) ≡ listing P
+listing-words P = emit-instructions (listing P)
+
+-- an instruction has three words
+pub words-length : (o : Op) → length (words o) ≡ wordsEach
+words-length (call n) = refl
+words-length (schedule t) = refl
+words-length (branch d a) = refl
+words-length (jump a) = refl
+words-length (future d a) = refl
+words-length return = refl
+words-length faulty = refl
+
+-- so a listing has three times its length
+pub emit-length : (os : List Op) → length (emit os) ≡ wordsEach * length os
+emit-length [] = refl
+emit-length (o ∷ os) = omega (arith, length-append (words o) (emit os), words-length o, emit-length os)

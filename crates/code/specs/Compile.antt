@@ -1,0 +1,79 @@
+-- Compiling: the verdict 1 to 11, the length, and the lent slice afterwards; the delay of a `future` of the compiled code.
+-- Assumes nothing.
+use Prim.Native.Nat.{ℕ, zero, suc, _+_, _*_, _≤_}
+use mathlib.Core.Bool.{Bool, true, false, _||_}
+use mathlib.Core.List.{List, [], _∷_, _++_, map}
+use mathlib.Core.Option.{Option, none, some}
+use lib.Dec.{ltb}
+use lib.ListN.{length, drop, getD}
+use Rattle.theory.specs.Verdict.{Refusal, within, verdict, Rule, holding}
+use Rattle.cells.specs.Limits.{maxCode, wordsEach}
+use Rattle.program.specs.Tables.{Tables}
+use Rattle.program.specs.Program.{programOf}
+use Rattle.rules.specs.Verdict.{shapeRefusal, tableRefusals, programRules}
+use Rattle.code.specs.Op.{Op, call, schedule, branch, jump, future, return, faulty, emit}
+use Rattle.code.specs.Listing.{listing}
+use Rattle.code.specs.declared.Compiled.{Compiled}
+
+-- the listing that these tables say
+unfoldable pub listingOf : Tables → List Op
+listingOf T = listing (programOf T)
+
+-- 11 outside compiling: E code exceeds 4,096 instructions
+unfoldable pub codeLong : Tables → Bool
+codeLong T = ltb maxCode (length (listingOf T))
+
+abbrev pub longRefusal : Refusal Tables
+longRefusal = record { number = 11; applies = codeLong }
+
+abbrev pub CodeFits : Tables → Type 0
+CodeFits T = length (listingOf T) ≤ maxCode
+
+abbrev pub longRule : Rule Tables
+longRule = record { number = 11; holds = CodeFits }
+
+-- compiling is lent a slice too: 11 also where the listing exceeds it
+pub record Compiling : Type 0 where
+  pub tables : Tables
+  pub slice : List ℕ
+
+unfoldable pub sliceShort : Compiling → Bool
+sliceShort L = ltb (length (L .slice)) (wordsEach * length (listingOf (L .tables)))
+
+unfoldable pub compileVerdict : Compiling → ℕ
+compileVerdict L =
+    verdict
+    (map (within (λ (L : Compiling). L .tables)) (shapeRefusal ∷ tableRefusals)
+    ++ (record { number = 11; applies = λ L. codeLong (L .tables) || sliceShort L } ∷ []))
+    L
+
+abbrev pub compileRules : List (Rule Compiling)
+compileRules =
+    map (holding (λ (L : Compiling). L .tables)) programRules
+    ++ (record { number = 11; holds = λ L. CodeFits (L .tables) × (wordsEach * length (listingOf (L .tables)) ≤ length (L .slice)) } ∷ [])
+
+-- the answer, and the slice as it is left
+abbrev pub compileAnswer : Compiling → Compiled
+compileAnswer L = elim (compileVerdict L) [
+  | zero ↦ record { number = 0; length = length (listingOf (L .tables)) }
+  | suc n ↦ record { number = suc n; length = 0 }
+]
+
+abbrev pub compileSlice : Compiling → List ℕ
+compileSlice L = elim (compileVerdict L) [
+  | zero ↦ emit (listingOf (L .tables)) ++ drop (wordsEach * length (listingOf (L .tables))) (L .slice)
+  | suc n ↦ L .slice
+]
+
+-- the delay of the `future` at an address of a code, or none
+abbrev pub futureDelay : Op → Option ℕ
+futureDelay (call n) = none
+futureDelay (schedule t) = none
+futureDelay (branch d a) = none
+futureDelay (jump a) = none
+futureDelay (future d a) = some d
+futureDelay return = none
+futureDelay faulty = none
+
+abbrev pub delayAt : List Op → ℕ → Option ℕ
+delayAt code a = futureDelay (getD code a faulty)

@@ -1,0 +1,4 @@
+-- What is proved of the demands so far.
+pub mod Verdict
+pub mod Supplied
+pub mod Supplier

@@ -1,0 +1,151 @@
+-- Demand 3, first half, holds of the definitions: a supplier's schedule code is accepted exactly where every fair run keeps to
+-- its windows and terminations; the place is that of the worst-case run; other suppliers do not matter. Assumes nothing.
+use Prim.Native.Nat.{ℕ, zero, suc, _≤_, _<_}
+use mathlib.Core.Path.{_≡_, sym, ap, subst, _∙_, fun-ext}
+use mathlib.Core.Bool.{true}
+use mathlib.Core.List.{List}
+use mathlib.Core.Logic.{_↔_, Iff·trans}
+use native.Mathlib.Omega.{arith}
+use lib.Dec.{eqb}
+use lib.IntN.{ℤ}
+use lib.ListN.{length}
+use borrow.Author.Tests.{eqb-true, eq-eqb}
+use Rattle.theory.specs.Verdict.{orElse}
+use Rattle.theory.proofs.Bools.{iff, is-true}
+use Rattle.theory.proofs.Members.{Has, has-those}
+use Rattle.cells.specs.Cell.{indexOf}
+use Rattle.cells.specs.Limits.{maxPart}
+use Rattle.program.specs.Tables.{tables, modeCount, taskSupplier, taskWorst}
+use Rattle.program.specs.Units.{invMisses, updMisses, swMisses, isMultiple, units}
+use Rattle.program.specs.Program.{programOf}
+use Rattle.program.proofs.Decoded.{mode-count}
+use Rattle.rules.specs.Shape.{badSlice}
+use Rattle.runs.specs.Windows.{windowCount, winSupplier, winMode, winFrom, winTo, inWindow, InWindow}
+use Rattle.runs.specs.Schedule.{scheduleWidth}
+use Rattle.runs.specs.Round.{Choice, Good, Fair, worstCase, Break, none, outside, late, worstBreak}
+use Rattle.runs.proofs.Windows.{in-window-says}
+use Rattle.runs.proofs.First.{judge-exactly}
+use Rattle.runs.proofs.Exactly.{no-break-exactly}
+use Rattle.suppliers.specs.Windows.{windowsVerdict}
+use Rattle.suppliers.specs.Supplier.{Asked, supplierOf, courseOf, nothing, answerFrom, judged, partVerdict, supplierVerdict}
+use Rattle.suppliers.specs.declared.Answer.{Answer}
+use Rattle.suppliers.proofs.Modes.{answerOf, AllGood, BreaksFirst, answer-good, answer-break}
+use Rattle.suppliers.proofs.Accepted.{part-some-time, part-after}
+use Rattle.suppliers.proofs.Tasks.{withTasks, part-tasks, break-tasks}
+use Rattle.demands.specs.Supplier.{SupplierExact, BreaksAt, SupplierPlace, Window, ownWindows, Independent}
+
+module _ (L : Asked) (a : partVerdict L ≡ 0) where
+  -- not refused by 1 to 13: the verdict is what the judge of each mode gives
+  verdict-judged : supplierVerdict L ≡ answerFrom (λ m. worstBreak (courseOf L m) nothing) (modeCount (L .tables)) 0
+  unfolding supplierVerdict
+  verdict-judged =
+      ap (λ n. elim n as (λ n. Answer) [ zero ↦ judged L | suc n ↦ record { number = suc n; mode = 0; tick = 0 } ]) a
+      ∙ ap (λ n. answerFrom (λ m. worstBreak (courseOf L m) nothing) n 0) (mode-count (L .tables))
+
+  -- no run breaks exactly where every fair run of every mode is good
+  all-good : AllGood (λ m. worstBreak (courseOf L m) nothing) (modeCount (L .tables)) 0
+      ↔ ((m : ℕ) → m < modeCount (L .tables) → (c : Choice) → Fair (courseOf L m) c → Good (courseOf L m) c nothing)
+  all-good = (
+    λ g m l. no-break-exactly (courseOf L m) nothing (part-some-time L a m l) .0 (g m (omega arith) (omega arith)),
+    λ h m _ l. no-break-exactly (courseOf L m) nothing (part-some-time L a m (omega arith)) .1 (h m (omega arith)),
+  )
+
+  -- the first mode whose run breaks
+  breaks-at : (m : ℕ) (b : Break) → (b ≡ none → ⊥) → BreaksFirst (λ m. worstBreak (courseOf L m) nothing) (modeCount (L .tables)) 0 m b ↔ BreaksAt L m b
+  breaks-at m b d = (
+    λ w. record {
+      declared = omega (arith, w .below);
+      lower-good = λ i l. judge-exactly (courseOf L i) (worstCase (courseOf L i)) nothing none .0 (w .lower i (omega arith) l);
+      first-break = judge-exactly (courseOf L m) (worstCase (courseOf L m)) nothing b .0 (w .break);
+    },
+    λ w. record {
+      from = omega arith;
+      below = omega (arith, w .declared);
+      lower = λ i _ l. judge-exactly (courseOf L i) (worstCase (courseOf L i)) nothing none .1 (w .lower-good i l);
+      break = judge-exactly (courseOf L m) (worstCase (courseOf L m)) nothing b .1 (w .first-break);
+      is-break = d;
+    },
+  )
+
+-- accepted exactly where every fair run of every mode keeps to its windows and terminations
+pub supplier-exact : SupplierExact
+supplier-exact L a =
+    rw (verdict-judged L a) (Iff·trans (answer-good (λ m. worstBreak (courseOf L m) nothing) (modeCount (L .tables)) 0) (all-good L a))
+
+-- the place is the lowest mode whose worst-case run breaks, and the first break in it
+pub supplier-place : SupplierPlace
+supplier-place L a = record {
+  outside-at = λ m t. place m (outside t) (λ q. absurd (let z : _≡_ {A = ℕ} 0 1 = cc in omega arith));
+  late-at = λ m t. place m (late t) (λ q. absurd (let z : _≡_ {A = ℕ} 0 1 = cc in omega arith));
+}
+  where
+    place : (m : ℕ) (b : Break) → (b ≡ none → ⊥) → (supplierVerdict L ≡ answerOf m b) ↔ BreaksAt L m b
+    place m b d = rw (verdict-judged L a)
+        (Iff·trans (answer-break (λ m. worstBreak (courseOf L m) nothing) (modeCount (L .tables)) 0 m b d) (breaks-at L a m b d))
+
+-- a window has tick t of mode m
+abbrev HasTick : ℕ → ℕ → Window → Type 0
+HasTick m t w = (w .mode ≡ m) × (w .from ≤ t) × (t < w .to)
+
+-- a tick lies in a window of s exactly where one of the windows of s has it
+own-window : (W : List ℤ) (s m t : ℕ) → InWindow W s m t ↔ Has (HasTick m t) (ownWindows W s)
+own-window W s m t =
+    let r = has-those (HasTick m t) (λ i. eqb (winSupplier W i) s) (λ i. record { mode = winMode W i; from = winFrom W i; to = winTo W i }) (windowCount W) in (
+      λ w. r .1 (w .row, w .in-table, eq-eqb (winSupplier W (w .row)) s (w .owner), (w .has .of-mode, w .has .begun, w .has .not-over)),
+      λ h. let (i, l, p, q) = r .0 h in record {
+        row = i;
+        in-table = l;
+        owner = eqb-true (winSupplier W i) s p;
+        has = record { of-mode = q .0; begun = q .1; not-over = q .2 };
+      },
+    )
+
+-- so the same windows of s have the same ticks
+window-same : (W X : List ℤ) (s m : ℕ) → ownWindows W s ≡ ownWindows X s → inWindow W s m ≡ inWindow X s m
+window-same W X s m e = fun-ext (λ t. iff (inWindow W s m t) (inWindow X s m t) (over W X e t) (over X W (sym e) t))
+  where
+    over : (W X : List ℤ) → ownWindows W s ≡ ownWindows X s → (t : ℕ) → inWindow W s m t ≡ true → inWindow X s m t ≡ true
+    over W X e t h =
+        is-true (in-window-says X s m t)
+        (own-window X s m t .1 (subst (Has (HasTick m t)) e (own-window W s m t .0 (in-window-says W s m t .yes h))))
+
+-- the same part of the same supplier with other tasks and windows
+abbrev changed : Asked → List ℤ → List ℤ → Asked
+changed L x W = record { tables = withTasks (L .tables) x; windows = W; part = L .part; supplier = L .supplier }
+
+-- where only worst-case times and windows of other suppliers differ
+module _ (L : Asked) (x W : List ℤ) (n : length (L .tables .tasks) ≡ length x)
+    (p : (t : ℕ) → taskSupplier (L .tables) t ≡ taskSupplier (withTasks (L .tables) x) t)
+    (q : (t : ℕ) → taskSupplier (L .tables) t ≡ supplierOf L → taskWorst (L .tables) t ≡ taskWorst (withTasks (L .tables) x) t)
+    (w : ownWindows (L .windows) (supplierOf L) ≡ ownWindows W (supplierOf L)) where
+  judged-same : judged L ≡ judged (changed L x W)
+  unfolding units isMultiple invMisses updMisses swMisses
+  judged-same = λ i.
+      answerFrom (λ m. break-tasks (L .tables) x (supplierOf L) n p q (L .windows) W (L .part) m (window-same (L .windows) W (supplierOf L) m w) i)
+      (length (programOf (L .tables) .modes)) 0
+
+  changed-same : windowsVerdict (record { tables = L .tables; windows = L .windows }) ≡ 0
+      → windowsVerdict (record { tables = withTasks (L .tables) x; windows = W }) ≡ 0 → supplierVerdict L ≡ supplierVerdict (changed L x W)
+  unfolding supplierVerdict
+  changed-same a b =
+      let e : partVerdict L ≡ partVerdict (changed L x W) =
+          part-after L a
+          ∙ (λ i. orElse (badSlice scheduleWidth maxPart (L .part)) 1 (orElse (part-tasks (L .tables) x (supplierOf L) n p q (L .part) (supplierOf L) i) 13 0))
+          ∙ sym (part-after (changed L x W) b) in
+      λ i. elim (e i) as (λ n. Answer) [ zero ↦ judged-same i | suc n ↦ record { number = suc n; mode = 0; tick = 0 } ]
+
+-- other suppliers' worst-case times and windows do not matter
+pub independent : Independent
+independent L K e f h w a b =
+    changed-same L (K .tables .tasks) (K .windows) (h .tasks) (h .suppliers) (h .own-worst)
+    (w ∙ ap (λ z. ownWindows (K .windows) (indexOf z)) (sym f)) a
+    (subst (λ A. windowsVerdict (record { tables = A .tables; windows = A .windows }) ≡ 0) (sym same) b)
+    ∙ ap supplierVerdict same
+  where
+    same : changed L (K .tables .tasks) (K .windows) ≡ K
+    same = λ i. record {
+      tables = tables (h .ports i) (K .tables .tasks) (h .task-ports i) (h .drivers i) (h .copies i) (h .modes i) (h .mode-ports i) (h .invocations i) (h .updates i) (h .switches i) (h .start i);
+      windows = K .windows;
+      part = e i;
+      supplier = f i;
+    }

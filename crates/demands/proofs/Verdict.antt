@@ -1,0 +1,81 @@
+-- Demand 2 holds of the definitions: the verdict exactly, the missing reading, and what compiling writes.
+-- Assumes nothing.
+use Prim.Native.Nat.{ℕ, zero, suc, _*_, _≤_}
+use mathlib.Core.Path.{_≡_, refl, ap, _∙_}
+use mathlib.Core.Bool.{_||_}
+use mathlib.Core.List.{List, [], _∷_, map}
+use native.Mathlib.Omega.{arith}
+use lib.ListN.{length, drop, length-append, length-drop}
+use lib.Seq.{take-at, drop-at}
+use Rattle.theory.specs.Verdict.{Refusal, within}
+use Rattle.theory.proofs.Bools.{bars-lt, _or_}
+use Rattle.theory.proofs.Verdict.{verdict-clear, verdict-both}
+use Rattle.cells.specs.Limits.{maxCode, wordsEach}
+use Rattle.rules.specs.Verdict.{shapeRefusal, tableRefusals, programVerdict}
+use Rattle.rules.specs.Shape.{shapeBad}
+use Rattle.rules.proofs.Accepted.{lent-accepted}
+use Rattle.rules.proofs.Verdict.{program-first, program-accepted, missing-guard}
+use Rattle.code.specs.Op.{Op, emit, instructions}
+use Rattle.code.specs.Compile.{Compiling, listingOf, codeLong, sliceShort, compileVerdict, compileAnswer, compileSlice}
+use Rattle.code.proofs.Words.{emit-instructions, emit-length}
+use Rattle.code.proofs.Accepted.{accepted-length}
+use Rattle.demands.specs.Verdict.{VerdictExact, AcceptedExactly, MissingReading, ListingWritten, RefusalKeeps}
+
+-- the verdict is the number of the first rule that is broken
+pub verdict-exact : VerdictExact
+verdict-exact T v n = program-first T v n
+
+-- a program is accepted exactly where every rule holds
+pub accepted-exactly : AcceptedExactly
+accepted-exactly T v = program-accepted T v
+
+-- no interval guard but its own holds for a missing reading
+pub missing-reading : MissingReading
+missing-reading T v a d l k w = missing-guard T v a d l k w
+
+-- what a compiling that is not refused knows: the program is accepted, and 11 does not apply
+own : List (Refusal Compiling)
+own = map (within (λ (L : Compiling). L .tables)) (shapeRefusal ∷ tableRefusals)
+
+eleven : List (Refusal Compiling)
+eleven = record { number = 11; applies = λ L. codeLong (L .tables) || sliceShort L } ∷ []
+
+accepted : (L : Compiling) → compileVerdict L ≡ 0 → programVerdict (L .tables) ≡ 0
+unfolding compileVerdict eleven
+accepted L e = lent-accepted (λ (L : Compiling). L .tables) (λ L. shapeBad (L .tables)) eleven L (λ s. s) e
+
+fits : (L : Compiling) → compileVerdict L ≡ 0 → (length (listingOf (L .tables)) ≤ maxCode) × (wordsEach * length (listingOf (L .tables)) ≤ length (L .slice))
+unfolding compileVerdict own eleven codeLong sliceShort
+fits L e =
+    (bars-lt maxCode (length (listingOf (L .tables))) or bars-lt (length (L .slice)) (wordsEach * length (listingOf (L .tables)))) .ok
+    (verdict-clear eleven L (omega arith) (verdict-both own eleven L (omega arith) e .1) .0)
+
+-- not refused: the listing is written, and nothing else
+pub listing-written : ListingWritten
+listing-written L e = record {
+  length-rule = rw (e, compileAnswer) (accepted-length (L .tables) (accepted L e));
+  few = rw (e, compileAnswer) (fits L e .0);
+  the-listing = rw (e, compileAnswer, compileSlice) (ap instructions (take-at (emit os) rest n words) ∙ emit-instructions os);
+  the-rest = rw (e, compileAnswer, compileSlice) (drop-at (emit os) rest n words);
+  same-length = rw (e, compileSlice) (simp (length-append, length-drop) (omega (arith, words, fits L e .1)));
+}
+  where
+    os : List Op
+    os = listingOf (L .tables)
+
+    n : ℕ
+    n = wordsEach * length (listingOf (L .tables))
+
+    rest : List ℕ
+    rest = drop (wordsEach * length (listingOf (L .tables))) (L .slice)
+
+    words : length (emit (listingOf (L .tables))) ≡ wordsEach * length (listingOf (L .tables))
+    words = emit-length (listingOf (L .tables))
+
+-- refused: nothing is written, and the length is 0
+pub refusal-keeps : RefusalKeeps
+refusal-keeps L h = go (compileVerdict L) refl
+  where
+    go : (n : ℕ) → compileVerdict L ≡ n → (compileSlice L ≡ L .slice) × (compileAnswer L .length ≡ 0)
+    go zero e = absurd (h e)
+    go (suc n) e = (rw (e, compileSlice), rw (e, compileAnswer))

@@ -1,0 +1,74 @@
+-- Demand 3, first half, as statements: a supplier's schedule code is accepted exactly when, in every mode and for every
+-- choice of execution times, it stays in its windows and ends in time; the place; the independence of other suppliers.
+-- The proofs are to come with the supplier verdict (docs/ARCHITECTURE.md). Assumes nothing.
+use Prim.Native.Nat.{ℕ, _≤_, _<_}
+use mathlib.Core.Path.{_≡_}
+use mathlib.Core.List.{List}
+use mathlib.Core.Logic.{_↔_}
+use lib.Dec.{eqb}
+use lib.IntN.{ℤ}
+use lib.ListN.{length}
+use Rattle.theory.specs.Lists.{those}
+use Rattle.program.specs.Tables.{Tables, modeCount, taskCount, taskSupplier, taskWorst}
+use Rattle.runs.specs.Windows.{windowCount, winSupplier, winMode, winFrom, winTo}
+use Rattle.runs.specs.Round.{Choice, Good, Fair, worstCase, Break, none, outside, late, FirstBreak}
+use Rattle.suppliers.specs.Windows.{Windowed, windowsVerdict}
+use Rattle.suppliers.specs.Supplier.{Asked, supplierOf, courseOf, nothing, partVerdict, supplierVerdict}
+use Rattle.suppliers.specs.declared.Answer.{Answer}
+
+-- Program and windows accepted, the part well-formed (1 to 13 do not apply): accepted exactly when, in every mode, reached or
+-- not, and for every choice of an execution time from 1 to the worst case for every release, every tick in which the supplier
+-- runs lies in one of its windows and every task has ended at each of its termination instants
+abbrev pub SupplierExact : Type 0
+SupplierExact =
+    (L : Asked) → partVerdict L ≡ 0
+    → (supplierVerdict L .number ≡ 0)
+    ↔ ((m : ℕ) → m < modeCount (L .tables) → (c : Choice) → Fair (courseOf L m) c → Good (courseOf L m) c nothing)
+
+-- The place is that of the run with all worst-case times: the lowest mode whose run breaks, and the first break in it
+pub record BreaksAt (L : Asked) (m : ℕ) (b : Break) : Type 0 where
+  pub declared : m < modeCount (L .tables)
+  pub lower-good : (i : ℕ) → i < m → Good (courseOf L i) (worstCase (courseOf L i)) nothing
+  pub first-break : FirstBreak (courseOf L m) (worstCase (courseOf L m)) nothing b
+
+pub record PlaceExact (L : Asked) : Type 0 where
+  pub outside-at : (m t : ℕ) → (supplierVerdict L ≡ record { number = 14; mode = m; tick = t }) ↔ BreaksAt L m (outside t)
+  pub late-at : (m t : ℕ) → (supplierVerdict L ≡ record { number = 15; mode = m; tick = t }) ↔ BreaksAt L m (late t)
+
+abbrev pub SupplierPlace : Type 0
+SupplierPlace = (L : Asked) → partVerdict L ≡ 0 → PlaceExact L
+
+-- Two programs that differ only in the worst-case times of other suppliers than s
+pub record SameFor (s : ℕ) (T U : Tables) : Type 0 where
+  pub ports : T .ports ≡ U .ports
+  pub tasks : length (T .tasks) ≡ length (U .tasks)
+  pub suppliers : (t : ℕ) → taskSupplier T t ≡ taskSupplier U t
+  pub own-worst : (t : ℕ) → taskSupplier T t ≡ s → taskWorst T t ≡ taskWorst U t
+  pub task-ports : T .taskPorts ≡ U .taskPorts
+  pub drivers : T .drivers ≡ U .drivers
+  pub copies : T .copies ≡ U .copies
+  pub modes : T .modes ≡ U .modes
+  pub mode-ports : T .modePorts ≡ U .modePorts
+  pub invocations : T .invocations ≡ U .invocations
+  pub updates : T .updates ≡ U .updates
+  pub switches : T .switches ≡ U .switches
+  pub start : T .start ≡ U .start
+
+-- the windows of supplier s, in table order
+pub record Window : Type 0 where
+  pub mode : ℕ
+  pub from : ℕ
+  pub to : ℕ
+
+abbrev pub ownWindows : List ℤ → ℕ → List Window
+ownWindows W s = those (λ i. eqb (winSupplier W i) s) (λ i. record { mode = winMode W i; from = winFrom W i; to = winTo W i }) (windowCount W) 0
+
+-- The verdict, place included, is the same when only other suppliers' worst-case times and windows change, both passing 1 to 12
+abbrev pub Independent : Type 0
+Independent =
+    (L K : Asked) → L .part ≡ K .part → L .supplier ≡ K .supplier
+    → SameFor (supplierOf L) (L .tables) (K .tables)
+    → ownWindows (L .windows) (supplierOf L) ≡ ownWindows (K .windows) (supplierOf K)
+    → windowsVerdict (record { tables = L .tables; windows = L .windows }) ≡ 0
+    → windowsVerdict (record { tables = K .tables; windows = K .windows }) ≡ 0
+    → supplierVerdict L ≡ supplierVerdict K

@@ -1,0 +1,47 @@
+-- Demand 2, as statements: a program is accepted exactly when it meets the published rules of Giotto, as bounded in document
+-- 01; the E code is the one listing; a missing reading lies in no interval but its own.
+-- What is proved of them stands in docs/ARCHITECTURE.md. Assumes nothing.
+use Prim.Native.Nat.{ℕ, _*_, _≤_, _<_}
+use mathlib.Core.Path.{_≡_}
+use mathlib.Core.List.{List, []}
+use mathlib.Core.Logic.{_↔_}
+use lib.IntN.{ℤ}
+use lib.ListN.{length, take, drop}
+use Rattle.theory.specs.Verdict.{First, Keep}
+use Rattle.cells.specs.Reading.{noReading, Inside, Values}
+use Rattle.cells.specs.Limits.{maxCode, wordsEach}
+use Rattle.program.specs.Tables.{Tables, driverCount, guardKind, guardLow, guardHigh, kindInterval}
+use Rattle.program.specs.Program.{programOf}
+use Rattle.rules.specs.Verdict.{programVerdict, programRules}
+use Rattle.code.specs.Op.{instructions}
+use Rattle.code.specs.Listing.{lengthRule}
+use Rattle.code.specs.Compile.{Compiling, listingOf, compileVerdict, compileAnswer, compileSlice}
+
+-- (The numbers of a lent slice are of 32 bits; only those of the drivers table matter, in number 8's valuations.)
+-- The verdict is n exactly where rule n is broken and no earlier one is; so it is 0 exactly where every rule holds
+abbrev pub VerdictExact : Type 0
+VerdictExact = (T : Tables) → Values (T .drivers) → (n : ℕ) → (programVerdict T ≡ n) ↔ First programRules T n
+
+abbrev pub AcceptedExactly : Type 0
+AcceptedExactly = (T : Tables) → Values (T .drivers) → (programVerdict T ≡ 0) ↔ Keep programRules T
+
+-- no interval guard of an accepted program holds for a missing reading, but the one from no-reading to no-reading
+abbrev pub MissingReading : Type 0
+MissingReading =
+    (T : Tables) → Values (T .drivers) → programVerdict T ≡ 0 → (d : ℕ) → d < driverCount T → guardKind T d ≡ kindInterval
+    → Inside (guardLow T d) noReading (guardHigh T d) → (guardLow T d ≡ noReading) × (guardHigh T d ≡ noReading)
+
+-- compiling, not refused: the length is 01's rule, the words written are those of the listing, the rest of the slice is as before
+pub record Compiles (L : Compiling) : Type 0 where
+  pub length-rule : compileAnswer L .length ≡ lengthRule (programOf (L .tables))
+  pub few : compileAnswer L .length ≤ maxCode
+  pub the-listing : instructions (take (wordsEach * compileAnswer L .length) (compileSlice L)) ≡ listingOf (L .tables)
+  pub the-rest : drop (wordsEach * compileAnswer L .length) (compileSlice L) ≡ drop (wordsEach * compileAnswer L .length) (L .slice)
+  pub same-length : length (compileSlice L) ≡ length (L .slice)
+
+abbrev pub ListingWritten : Type 0
+ListingWritten = (L : Compiling) → compileVerdict L ≡ 0 → Compiles L
+
+-- refused: nothing is written, and the length is 0
+abbrev pub RefusalKeeps : Type 0
+RefusalKeeps = (L : Compiling) → (compileVerdict L ≡ 0 → ⊥) → (compileSlice L ≡ L .slice) × (compileAnswer L .length ≡ 0)

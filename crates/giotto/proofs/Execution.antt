@@ -1,0 +1,95 @@
+-- The execution is 001's: from the initial configuration, at each time stamp the successor configuration, and between two of them
+-- nothing changes; no time stamp is missed. Assumes the program's rules; the task functions and the readings are any.
+use Prim.Native.Nat.{ℕ, zero, suc, _/_, _≤_, _<_}
+use mathlib.Core.Path.{_≡_, _∙_}
+use mathlib.Core.Bool.{Bool, true, false}
+use mathlib.Core.List.{List}
+use mathlib.Core.Option.{Option, none, some}
+use native.Mathlib.Nat.{mod-lt}
+use native.Mathlib.Decide.{ℕ-discrete}
+use native.Mathlib.Omega.{arith}
+use lib.Dec.{eqb}
+use lib.IntN.{ℤ}
+use lib.ListN.{length}
+use borrow.Author.Tests.{eq-eqb, ne-eqb}
+use Rattle.theory.specs.Verdict.{Keep}
+use Rattle.theory.proofs.Lists.{each-length}
+use Rattle.theory.proofs.Puts.{puts-length}
+use Rattle.cells.specs.Limits.{maxPorts}
+use Rattle.program.specs.Tables.{Tables, portFirst, modeCount, modePeriod}
+use Rattle.program.specs.Units.{units}
+use Rattle.program.specs.Program.{Program, Switch, programOf}
+use Rattle.program.specs.Ports.{valueOf}
+use Rattle.program.proofs.Units.{units-some}
+use Rattle.rules.specs.Verdict.{programRules}
+use Rattle.rules.proofs.Timing.{ticks-some}
+use Rattle.giotto.specs.Instant.{Configuration, enter, sensed, switchOf, instant, Function, results}
+use Rattle.giotto.specs.Successor.{Successor}
+use Rattle.giotto.specs.Execution.{pass, execution}
+use Rattle.giotto.proofs.Succeeds.{instant-succeeds}
+use Rattle.giotto.proofs.Released.{instant-mode}
+
+-- an instant keeps the number of ports
+pub instant-ports : (P : Program) (result : ℕ → ℕ → ℤ) (readings : List ℤ) (C : Configuration)
+    → length (instant P result readings C .ports) ≡ length (C .ports)
+instant-ports P result readings C = go (switchOf P C (sensed P result readings C))
+  where
+    go : (s : Option Switch) → length (enter P C s (sensed P result readings C) .ports) ≡ length (C .ports)
+    go none = simp puts-length
+    go (some w) = simp puts-length
+
+-- all ports are there, the mode is declared, and the unit is one of its
+pub record Proper (T : Tables) (C : Configuration) : Type 0 where
+  pub ports : length (C .ports) ≡ maxPorts
+  pub mode : C .mode < modeCount T
+  pub unit : C .unit < units T (C .mode)
+
+module _ (T : Tables) (K : Keep programRules T) (F : Function) (readings : ℕ → List ℤ) where
+  -- before tick n
+  abbrev at : ℕ → Configuration
+  at n = execution (programOf T) F readings n
+
+  -- the tasks' results, and the instant, if there is one in tick n
+  abbrev gives : ℕ → ℕ → ℕ → ℤ
+  gives n = results (programOf T) F (at n .ports)
+
+  abbrev next : ℕ → Configuration
+  next n = instant (programOf T) (gives n) (readings n) (at n)
+
+  -- it is the successor configuration
+  succeeds : (n : ℕ) → Proper T (at n) → Successor T (gives n) (valueOf (readings n)) (at n) (next n)
+  succeeds n s = instant-succeeds T K (gives n) (readings n) (at n) (s .ports) (s .mode) (s .unit)
+
+  -- every configuration of an execution has all ports, a declared mode and one of its units
+  pub execution-keeps : (n : ℕ) → Proper T (at n)
+  execution-keeps zero = record { ports = each-length (portFirst T) maxPorts 0; mode = K .1 .0 .start; unit = units-some T _ }
+  execution-keeps (suc n) = go (eqb (at n .time) n) (execution-keeps n)
+    where
+      go : (b : Bool) → Proper T (at n) → Proper T (elim b [ true ↦ next n | false ↦ at n ])
+      go true s =
+          record {
+            ports = instant-ports (programOf T) (gives n) (readings n) (at n) ∙ s .ports;
+            mode = instant-mode T (K .1 .0) (gives n) (readings n) (at n) (s .mode);
+            unit = rw (succeeds n s .next-unit) (mod-lt (suc (succeeds n s .unit)) (units-some T (next n .mode)));
+          }
+      go false s = s
+
+  -- at a time stamp it goes on to the successor configuration
+  pub execution-succeeds : (n : ℕ) → at n .time ≡ n → Successor T (gives n) (valueOf (readings n)) (at n) (at (suc n))
+  execution-succeeds n e = rw (eq-eqb (at n .time) n e, pass) (succeeds n (execution-keeps n))
+
+  -- at any other tick nothing changes
+  pub execution-waits : (n : ℕ) → (at n .time ≡ n → ⊥) → at (suc n) ≡ at n
+  execution-waits n d = rw (ne-eqb (at n .time) n d, pass)
+
+  -- the next time stamp is never past: so none is missed
+  pub time-ahead : (n : ℕ) → n ≤ at n .time
+  time-ahead zero = omega arith
+  time-ahead (suc n) = go (ℕ-discrete (at n .time) n) (time-ahead n)
+    where
+      ticks : 1 ≤ modePeriod T (at (suc n) .mode) / units T (at (suc n) .mode)
+      ticks = ticks-some T (K .1 .0) (K .1 .1 .1 .1 .1 .1 .1 .1 .0) (at (suc n) .mode) (execution-keeps (suc n) .mode)
+
+      go : Dec (at n .time ≡ n) → n ≤ at n .time → suc n ≤ at (suc n) .time
+      go (yes e) l = omega (arith, execution-succeeds n e .time-stamp, ticks)
+      go (no d) l = rw (execution-waits n d) (omega arith)

@@ -1,0 +1,12 @@
+-- The executable instant is 001's successor configuration, a configuration has one successor, and the execution goes by successors.
+pub mod Steps
+pub mod Drives
+pub mod Outputs
+pub mod Updates
+pub mod Inputs
+pub mod Switching
+pub mod Active
+pub mod Succeeds
+pub mod One
+pub mod Released
+pub mod Execution

@@ -1,0 +1,114 @@
+-- Step 1: completed tasks write their output ports, and no port gets two values.
+-- Assumes rules 1, 2 and 6, and that the mode is declared.
+use Prim.Native.Nat.{ℕ, _<_}
+use mathlib.Core.Path.{_≡_, refl, ap, sym, subst, _∙_}
+use mathlib.Core.Bool.{true}
+use mathlib.Core.List.{List}
+use mathlib.Core.Logic.{_↔_}
+use native.Mathlib.Omega.{arith}
+use lib.IntN.{ℤ}
+use lib.ListN.{length}
+use Rattle.theory.specs.Lists.{gather, Put}
+use Rattle.theory.proofs.Members.{Has, has-keep, has-gather}
+use Rattle.theory.proofs.Puts.{Wrote, Assigns}
+use Rattle.cells.specs.Limits.{maxPorts}
+use Rattle.program.specs.Tables.{Tables, output, taskCount, modeCount, invTask}
+use Rattle.program.specs.Sets.{Kind, Output}
+use Rattle.program.specs.Program.{taskRow, programOf, task, mode, dueTasks}
+use Rattle.program.specs.Ports.{valueOf, takes}
+use Rattle.program.proofs.Decoded.{task-row, has-ports}
+use Rattle.program.proofs.Ports.{wrote-takes}
+use Rattle.rules.specs.Shape.{Shaped}
+use Rattle.rules.specs.Fields.{Fields}
+use Rattle.rules.specs.Modes.{Invocations}
+use Rattle.rules.proofs.Shape.{ports-few}
+use Rattle.giotto.specs.Instant.{Configuration, completed, afterTasks}
+use Rattle.giotto.specs.Successor.{Next, Completed, TaskWrites}
+use Rattle.giotto.proofs.Steps.{next-puts, due-tasks, same-row}
+
+module _ (T : Tables) (C : Configuration) where
+  -- some completed task
+  pub has-completed : C .mode < modeCount T → (Q : ℕ → Type 0)
+      → Has Q (completed (programOf T) C) ↔ ((t : ℕ) × Completed T C t × Q t)
+  has-completed m Q =
+      let s = has-keep Q (C .active) (dueTasks (mode (programOf T) (C .mode)) (C .unit)) in
+      let r = due-tasks T (C .mode) (C .unit) m (λ t. (C .active t ≡ true) × Q t) in (
+        λ h. let w = r .0 (s .0 h) in (invTask T (w .0), (w .2 .0, (w .0, w .1, refl)), w .2 .1),
+        λ w. s .1 (r .1 (w .1 .1 .0, w .1 .1 .1, subst (λ t. (C .active t ≡ true) × Q t) (sym (w .1 .1 .2)) (w .1 .0, w .2))),
+      )
+
+  -- a completed task is declared
+  completed-declared : Fields T → (t : ℕ) → Completed T C t → t < taskCount T
+  completed-declared f t c = rw (← (c .1 .2)) (f .invocations (c .1 .0) (c .1 .1 .in-table) .task)
+
+  -- two completed tasks that share an output are one
+  completed-one : Invocations T → (t u p : ℕ) → Completed T C t → Completed T C u → Output T t p → Output T u p → t ≡ u
+  completed-one v t u p a b o q = sym (a .1 .2) ∙ ap (invTask T) rows ∙ b .1 .2
+    where
+      of-a : Output T (invTask T (a .1 .0)) p
+      of-a = rw (a .1 .2) o
+
+      of-b : Output T (invTask T (b .1 .0)) p
+      of-b = rw (b .1 .2) q
+
+      rows : a .1 .0 ≡ b .1 .0
+      rows =
+          same-row (a .1 .0) (b .1 .0)
+          (λ l. v .outputs-apart (b .1 .0) (a .1 .0) p l (b .1 .1 .in-table) (a .1 .1 .of-mode ∙ sym (b .1 .1 .of-mode)) of-b of-a)
+          (λ l. v .outputs-apart (a .1 .0) (b .1 .0) p l (a .1 .1 .in-table) (b .1 .1 .of-mode ∙ sym (a .1 .1 .of-mode)) of-a of-b)
+
+module _ (T : Tables) (result : ℕ → ℕ → ℤ) where
+  -- the assignments of step 1
+  abbrev taskPuts : Configuration → List Put
+  taskPuts C = gather (λ t. takes (result t) (task (programOf T) t .outputs)) (completed (programOf T) C)
+
+  -- a task writes its outputs
+  writes-row : (t p : ℕ) (x : ℤ) → Wrote (takes (result t) (taskRow T t .outputs)) p x ↔ (Output T t p × (x ≡ result t p))
+  writes-row t p x =
+      let s = wrote-takes (result t) (taskRow T t .outputs) p x in
+      let r = has-ports T (λ q. (q ≡ p) × (x ≡ result t q)) output t in (
+        λ h.
+            let w = r .0 (s .0 h) in
+            ((subst (Kind T output) (w .3 .0) (w .2 .1), (w .0, w .1, (w .2 .0, w .3 .0))), w .3 .1 ∙ ap (result t) (w .3 .0)),
+        λ w. s .1 (r .1 (
+          w .0 .1 .0,
+          w .0 .1 .1,
+          (w .0 .1 .2 .0, subst (Kind T output) (sym (w .0 .1 .2 .1)) (w .0 .0)),
+          (w .0 .1 .2 .1, w .1 ∙ ap (result t) (sym (w .0 .1 .2 .1))),
+        )),
+      )
+
+  -- so does the program's task of a declared number
+  writes-task : (t p : ℕ) (x : ℤ) → t < taskCount T
+      → Wrote (takes (result t) (task (programOf T) t .outputs)) p x ↔ (Output T t p × (x ≡ result t p))
+  writes-task t p x l = rw (task-row T t l) (writes-row t p x)
+
+  module _ (C : Configuration) (s : Shaped T) (f : Fields T) (v : Invocations T) (m : C .mode < modeCount T) where
+    -- the assignments are the writes
+    tasks-wrote : (p : ℕ) (x : ℤ)
+        → Wrote (taskPuts C) p x ↔ TaskWrites T result C p x
+    tasks-wrote p x =
+        let g = has-gather (λ (a : Put). (a .place ≡ p) × (x ≡ a .value)) (λ t. takes (result t) (task (programOf T) t .outputs)) (completed (programOf T) C) in
+        let c = has-completed T C m (λ t. Wrote (takes (result t) (task (programOf T) t .outputs)) p x) in (
+          λ h.
+              let w = c .0 (g .0 h) in
+              let o = writes-task (w .0) p x (completed-declared T C f (w .0) (w .1)) .0 (w .2) in
+              (w .0, w .1, o .0, o .1),
+          λ w. g .1 (c .1 (w .0, w .1, writes-task (w .0) p x (completed-declared T C f (w .0) (w .1)) .1 (w .2, w .3))),
+        )
+
+    -- one value for a port
+    tasks-one : (p : ℕ) (x y : ℤ) → TaskWrites T result C p x → TaskWrites T result C p y → x ≡ y
+    tasks-one p x y a b = a .3 ∙ ap (λ t. result t p) (completed-one T C v (a .0) (b .0) p (a .1) (b .1) (a .2) (b .2)) ∙ sym (b .3)
+
+    tasks-assign : Assigns (TaskWrites T result C) (taskPuts C) maxPorts
+    tasks-assign =
+        record {
+          wrote = tasks-wrote;
+          one = tasks-one;
+          inside = λ p x w. omega (arith, ports-few T s, w .2 .0 .0);
+        }
+
+    -- after step 1
+    pub outputs-next : length (C .ports) ≡ maxPorts → Next (TaskWrites T result C) (valueOf (C .ports)) (valueOf (afterTasks (programOf T) result C))
+    outputs-next e = next-puts (C .ports) e tasks-assign

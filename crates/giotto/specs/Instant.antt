@@ -1,0 +1,100 @@
+-- One instant of Giotto, after 001, section 3.2, bounded as in document 01: no machine, no code, no schedule.
+-- Assumes nothing.
+use Prim.Native.Nat.{ℕ, zero, suc, _+_}
+use mathlib.Core.Bool.{Bool, true, false, not, _&&_, _||_}
+use mathlib.Core.List.{List, [], _∷_, map}
+use mathlib.Core.Option.{Option, none, some}
+use lib.Dec.{eqb}
+use lib.IntN.{ℤ}
+use Rattle.theory.specs.Lists.{keep, gather, member, puts}
+use Rattle.program.specs.Guard.{holds}
+use Rattle.program.specs.Program.{Program, Mode, Switch, task, driver, mode, ticksOf, nextUnit, enteredUnit, dueInvocations, dueUpdates, dueSwitches, dueTasks}
+use Rattle.program.specs.Ports.{valueOf, valuesOf, takes, drive, driveAll}
+
+-- C = (τ, m, u, v, σactive): the tick of the next instant, mode, unit counter, port values, active tasks
+pub record Configuration : Type 0 where
+  pub time : ℕ
+  pub mode : ℕ
+  pub unit : ℕ
+  pub ports : List ℤ
+  pub active : ℕ → Bool
+
+-- (4) "the mode becomes the target and the unit 0", where a switch is taken
+abbrev pub modeAfter : ℕ → Option Switch → ℕ
+modeAfter m none = m
+modeAfter m (some w) = w .target
+
+abbrev pub unitAfter : ℕ → Option Switch → ℕ
+unitAfter k none = k
+unitAfter k (some w) = enteredUnit k w
+
+module _ (P : Program) where
+  -- the active due tasks
+  abbrev pub completed : Configuration → List ℕ
+  completed C = keep (C .active) (dueTasks (mode P (C .mode)) (C .unit))
+
+  -- (1) active due tasks write their outputs: `result t p` is what task t gives for port p
+  abbrev pub afterTasks : (ℕ → ℕ → ℤ) → Configuration → List ℤ
+  afterTasks result C = puts (gather (λ t. takes (result t) (task P t .outputs)) (completed C)) (C .ports)
+
+  -- (2) due updates
+  abbrev pub afterUpdates : Mode → ℕ → List ℤ → List ℤ
+  afterUpdates M k v = driveAll (map (λ r. driver P (r .driver)) (dueUpdates M k)) v
+
+  -- (3) all sensors are read
+  abbrev pub afterSensors : List ℤ → List ℤ → List ℤ
+  afterSensors readings v = puts (takes (valueOf readings) (P .sensors)) v
+
+  -- (4) the due switch whose guard holds: the first in table order (where 8 does not apply, it is the only one)
+  abbrev pub taken : List ℤ → List Switch → Option Switch
+  taken v [] = none
+  taken v (w ∷ ws) = elim (holds (driver P (w .driver) .guard) (valueOf v)) [ true ↦ some w | false ↦ taken v ws ]
+
+  -- its copies are made
+  abbrev pub afterSwitch : Option Switch → List ℤ → List ℤ
+  afterSwitch none v = v
+  afterSwitch (some w) v = drive (driver P (w .driver)) v
+
+  -- (5) due task drivers of the mode now current
+  abbrev pub afterDrivers : Mode → ℕ → List ℤ → List ℤ
+  afterDrivers M k v = driveAll (map (λ r. driver P (r .driver)) (dueInvocations M k)) v
+
+  -- (5) to (7), with the switch that is taken, or none, and the values after (3)
+  abbrev pub enter : Configuration → Option Switch → List ℤ → Configuration
+  enter C s v =
+      let M = mode P (modeAfter (C .mode) s) in
+      let k = unitAfter (C .unit) s in
+      record {
+        time = C .time + ticksOf M;
+        mode = modeAfter (C .mode) s;
+        unit = nextUnit M k;
+        ports = afterDrivers M k (afterSwitch s v);
+        active = λ t. (C .active t && not (member t (completed C))) || member t (dueTasks M k);
+      }
+
+  -- the values after (3)
+  abbrev pub sensed : (ℕ → ℕ → ℤ) → List ℤ → Configuration → List ℤ
+  sensed result readings C =
+      afterSensors readings (afterUpdates (mode P (C .mode)) (C .unit) (afterTasks result C))
+
+  -- the switch that is taken, or none
+  abbrev pub switchOf : Configuration → List ℤ → Option Switch
+  switchOf C v = taken v (dueSwitches (mode P (C .mode)) (C .unit))
+
+  -- the whole instant
+  abbrev pub instant : (ℕ → ℕ → ℤ) → List ℤ → Configuration → Configuration
+  instant result readings C = let v = sensed result readings C in enter C (switchOf C v) v
+
+  -- the tasks that become active in it: (6)
+  abbrev pub released : (ℕ → ℕ → ℤ) → List ℤ → Configuration → List ℕ
+  released result readings C =
+      let s = switchOf C (sensed result readings C) in
+      dueTasks (mode P (modeAfter (C .mode) s)) (unitAfter (C .unit) s)
+
+-- a task function for each task: from the values of its inputs, in table order, to a value for each output port
+abbrev pub Function : Type 0
+Function = ℕ → List ℤ → ℕ → ℤ
+
+-- what the tasks give when their inputs have these values
+abbrev pub results : Program → Function → List ℤ → ℕ → ℕ → ℤ
+results P F v t p = F t (valuesOf v (task P t .inputs)) p

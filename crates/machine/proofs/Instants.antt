@@ -1,0 +1,128 @@
+-- An instant ends, is refused, or has run all its instructions, exactly as the claims of specs/Instant.antt say.
+-- Assumes nothing.
+use Prim.Native.Nat.{ℕ, zero, suc, _-_, _≤_, _<_}
+use mathlib.Core.Path.{_≡_, refl, sym, ap, subst, _∙_}
+use mathlib.Core.Bool.{Bool, true, false}
+use mathlib.Core.List.{List}
+use mathlib.Core.Logic.{_⊎_, inl, inr, _↔_}
+use native.Mathlib.Omega.{arith}
+use lib.Dec.{ltb}
+use lib.IntN.{ℤ}
+use lib.ListN.{length}
+use borrow.Author.Tests.{ltb-true, ltb-false, lt-ltb, le-ltb}
+use Rattle.program.specs.Program.{Program}
+use Rattle.code.specs.Op.{Op}
+use Rattle.machine.specs.declared.State.{State}
+use Rattle.machine.specs.Instruction.{At, does}
+use Rattle.machine.specs.Instant.{Outcome, ok, stop, isReturn, fetch, refusalAt, run, startAt, instant, Goes, Ends, RefusedAt, Spent}
+
+module _ (P : Program) (readings times : List ℤ) (code : List Op) where
+  -- what one run comes to, with its claim
+  abbrev Claim : ℕ → At → Outcome → Type 0
+  Claim count a (ok s) = Ends P readings times code count a s
+  Claim count a (stop n) = RefusedAt P readings times code count a n ⊎ Spent P readings times code count a n
+
+  -- one instruction more at the front
+  further : (count : ℕ) (a : At) → refusalAt P readings times code a ≡ 0 → isReturn (fetch P readings times code a) ≡ false
+      → (o : Outcome) → Claim count (does P readings times (fetch P readings times code a) a) o → Claim (suc count) a o
+  further count a r n (ok s) c = record {
+    before = suc (c .before);
+    last = c .last;
+    in-count = omega (arith, c .in-count);
+    goes = (r, n, c .goes);
+    not-refused = c .not-refused;
+    returns = c .returns;
+    leaves = c .leaves;
+  }
+  further count a r n (stop v) (inl c) = inl (record {
+    before = suc (c .before);
+    last = c .last;
+    in-count = omega (arith, c .in-count);
+    goes = (r, n, c .goes);
+    some-number = c .some-number;
+    refused = c .refused;
+  })
+  further count a r n (stop v) (inr c) = inr (record { last = c .last; goes = (r, n, c .goes); spent = c .spent })
+
+  -- every run comes to what it claims
+  comes : (count : ℕ) (a : At) → Claim count a (run P readings times code count a)
+  comes zero a = go (ltb (a .address) (length code)) refl
+    where
+      go : (b : Bool) → ltb (a .address) (length code) ≡ b → Claim 0 a (elim b [ true ↦ stop 20 | false ↦ stop 19 ])
+      go true e = inr (record { last = a; goes = refl; spent = inl (ltb-true (a .address) (length code) e, refl) })
+      go false e = inr (record { last = a; goes = refl; spent = inr (ltb-false (a .address) (length code) e, refl) })
+  comes (suc count) a =
+      go (refusalAt P readings times code a) refl (isReturn (fetch P readings times code a)) refl (comes count (does P readings times (fetch P readings times code a) a))
+    where
+      next : At
+      next = does P readings times (fetch P readings times code a) a
+
+      go : (r : ℕ) → refusalAt P readings times code a ≡ r → (b : Bool) → isReturn (fetch P readings times code a) ≡ b
+          → Claim count next (run P readings times code count next)
+          → Claim (suc count) a (elim r [ zero ↦ elim b [ true ↦ ok (a .state) | false ↦ run P readings times code count next ] | suc n ↦ stop (suc n) ])
+      go zero e true f c = record { before = 0; last = a; in-count = omega arith; goes = refl; not-refused = e; returns = f; leaves = refl }
+      go zero e false f c = further count a e f (run P readings times code count next) c
+      go (suc n) e true f c = inl (record { before = 0; last = a; in-count = omega arith; goes = refl; some-number = omega arith; refused = e })
+      go (suc n) e false f c = inl (record { before = 0; last = a; in-count = omega arith; goes = refl; some-number = omega arith; refused = e })
+
+  -- one instruction that is not refused and no `return`
+  passes : (count : ℕ) (a : At) → refusalAt P readings times code a ≡ 0 → isReturn (fetch P readings times code a) ≡ false
+      → run P readings times code (suc count) a ≡ run P readings times code count (does P readings times (fetch P readings times code a) a)
+  passes count a r e = rw (r, run) (rw e)
+
+  -- a stretch of n instructions is followed, and uses up n of the count
+  pub follow : (n count : ℕ) (a b : At) → n ≤ count → Goes P readings times code n a b
+      → run P readings times code count a ≡ run P readings times code (count - n) b
+  follow zero count a b l e =
+      let z : count ≡ count - 0 = omega arith in
+      ap (run P readings times code count) e ∙ ap (λ (c : ℕ). run P readings times code c b) z
+  follow (suc n) zero a b l g = absurd (omega arith)
+  follow (suc n) (suc count) a b l g =
+      let z : count - n ≡ suc count - suc n = omega arith in
+      passes count a (g .0) (g .1)
+      ∙ follow n count (does P readings times (fetch P readings times code a) a) b (omega arith) (g .2)
+      ∙ ap (λ (c : ℕ). run P readings times code c b) z
+
+  at-return : (count : ℕ) (a : At) → refusalAt P readings times code a ≡ 0 → isReturn (fetch P readings times code a) ≡ true → run P readings times code (suc count) a ≡ ok (a .state)
+  at-return count a r e = rw (r, run) (rw e)
+
+  at-refusal : (count : ℕ) (a : At) (n : ℕ) → 1 ≤ n → refusalAt P readings times code a ≡ n → run P readings times code (suc count) a ≡ stop n
+  at-refusal count a zero l r = absurd (omega arith)
+  at-refusal count a (suc n) l r = rw (r, run)
+
+  -- the instant ends, and leaves s
+  pub instant-ends : (u s : State) → (instant P readings times code u ≡ ok s) ↔ Ends P readings times code (length code) (startAt P readings times code u) s
+  instant-ends u s =
+      (λ e. subst (Claim (length code) (startAt P readings times code u)) e (comes (length code) (startAt P readings times code u)),
+      λ c.
+        let z : length code - c .before ≡ suc (length code - suc (c .before)) = omega (arith, c .in-count) in
+        follow (c .before) (length code) (startAt P readings times code u) (c .last) (omega (arith, c .in-count)) (c .goes)
+        ∙ ap (λ (k : ℕ). run P readings times code k (c .last)) z
+        ∙ at-return (length code - suc (c .before)) (c .last) (c .not-refused) (c .returns)
+        ∙ ap ok (c .leaves))
+
+  -- the instant is refused with n
+  pub instant-stops : (u : State) (n : ℕ)
+      → (instant P readings times code u ≡ stop n)
+      ↔ (RefusedAt P readings times code (length code) (startAt P readings times code u) n ⊎ Spent P readings times code (length code) (startAt P readings times code u) n)
+  instant-stops u n =
+      (λ e. subst (Claim (length code) (startAt P readings times code u)) e (comes (length code) (startAt P readings times code u)), back)
+    where
+      a : At
+      a = startAt P readings times code u
+
+      ending : (b : At) → ((b .address < length code) × (n ≡ 20)) ⊎ ((length code ≤ b .address) × (n ≡ 19)) → run P readings times code 0 b ≡ stop n
+      ending b (inl x) = rw (lt-ltb (b .address) (length code) (x .0), run) (ap stop (sym (x .1)))
+      ending b (inr x) = rw (le-ltb (b .address) (length code) (x .0), run) (ap stop (sym (x .1)))
+
+      back : RefusedAt P readings times code (length code) a n ⊎ Spent P readings times code (length code) a n → run P readings times code (length code) a ≡ stop n
+      back (inl c) =
+          let z : length code - c .before ≡ suc (length code - suc (c .before)) = omega (arith, c .in-count) in
+          follow (c .before) (length code) a (c .last) (omega (arith, c .in-count)) (c .goes)
+          ∙ ap (λ (k : ℕ). run P readings times code k (c .last)) z
+          ∙ at-refusal (length code - suc (c .before)) (c .last) n (c .some-number) (c .refused)
+      back (inr c) =
+          let z : length code - length code ≡ 0 = omega arith in
+          follow (length code) (length code) a (c .last) (omega arith) (c .goes)
+          ∙ ap (λ (k : ℕ). run P readings times code k (c .last)) z
+          ∙ ending (c .last) (c .spent)

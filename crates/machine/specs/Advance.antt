@@ -1,0 +1,131 @@
+-- The two calls of the machine: a fresh state, and an advance of one tick. "A refusal returns its number, and the state is as
+-- before". Assumes nothing.
+use Prim.Native.Nat.{ℕ, zero, suc, _/_, _≤_, _<_}
+use mathlib.Core.Path.{_≡_}
+use mathlib.Core.Bool.{Bool, true, false, _||_}
+use mathlib.Core.List.{List, [], _∷_, _++_, map}
+use lib.Dec.{ltb, leb}
+use lib.IntN.{ℤ, pos}
+use lib.ListN.{length, getD, replicate}
+use Rattle.theory.specs.Search.{any}
+use Rattle.theory.specs.Verdict.{Refusal, within, verdict, Rule, holding}
+use Rattle.cells.specs.Limits.{suppliers, maxPorts, maxTasks, maxSchedule, maxCode, wordsEach, maxElapsed, maxRemaining, maxLeft}
+use Rattle.program.specs.Tables.{Tables}
+use Rattle.program.specs.Program.{Program, programOf}
+use Rattle.rules.specs.Shape.{badSlice, badLength, shapeBad, WholeRows, Shaped}
+use Rattle.rules.specs.Verdict.{tableRefusals, tableRules, programVerdict}
+use Rattle.runs.specs.Tick.{leftOf}
+use Rattle.runs.specs.Schedule.{scheduleWidth, scheduleCount}
+use Rattle.code.specs.Op.{Op, instructions}
+use Rattle.code.specs.Compile.{longRefusal, longRule}
+use Rattle.suppliers.specs.Schedule.{joinedBad, Joined}
+use Rattle.machine.specs.declared.State.{State}
+use Rattle.machine.specs.declared.Advanced.{Advanced}
+use Rattle.machine.specs.Instant.{Outcome, ok, stop, instant}
+use Rattle.machine.specs.Schedules.{tick}
+
+abbrev pub stateOf : List ℤ → State
+stateOf v = record {
+  ports = v;
+  outputs = v;
+  time = 0;
+  pending = 0;
+  current = 0;
+  elapsed = 0;
+  remaining = 0;
+  left = replicate maxTasks 0;
+  positions = replicate suppliers 0;
+}
+
+-- "a fresh state has the ports' first values in the first two and 0 elsewhere"; refused, it is all 0
+unfoldable pub freshAnswer : Tables → Advanced
+freshAnswer T = elim (programVerdict T) [
+  | zero ↦ record { number = 0; state = stateOf (programOf T .first) }
+  | suc n ↦ record { number = suc n; state = stateOf (replicate maxPorts (pos 0)) }
+]
+
+-- what is lent to a tick: by port readings and results, by task times
+pub record Lent : Type 0 where
+  pub readings : List ℤ
+  pub results : List ℤ
+  pub times : List ℤ
+
+-- what an advance is lent
+pub record Advance : Type 0 where
+  pub tables : Tables
+  pub code : List ℕ
+  pub schedule : List ℤ
+  pub state : State
+  pub lent : Lent
+
+unfoldable pub advanceShapeBad : Advance → Bool
+advanceShapeBad L =
+    shapeBad (L .tables)
+    || badSlice wordsEach maxCode (L .code)
+    || badSlice scheduleWidth maxSchedule (L .schedule)
+    || badLength maxPorts (L .lent .readings)
+    || badLength maxPorts (L .lent .results)
+    || badLength maxTasks (L .lent .times)
+
+pub record AdvanceShaped (L : Advance) : Type 0 where
+  pub tables : Shaped (L .tables)
+  pub code : WholeRows wordsEach maxCode (L .code)
+  pub schedule : WholeRows scheduleWidth maxSchedule (L .schedule)
+  pub readings : length (L .lent .readings) ≡ maxPorts
+  pub results : length (L .lent .results) ≡ maxPorts
+  pub times : length (L .lent .times) ≡ maxTasks
+
+-- 21: an address is not inside the E code, elapsed, remaining or a task's remaining time exceeds 4,096, or a position exceeds
+-- the schedule's rows
+unfoldable pub stateBad : Advance → Bool
+stateBad L =
+    leb (length (L .code) / wordsEach) (L .state .pending)
+    || leb (length (L .code) / wordsEach) (L .state .current)
+    || ltb maxElapsed (L .state .elapsed)
+    || ltb maxRemaining (L .state .remaining)
+    || any (λ t. ltb maxLeft (leftOf (L .state .left) t)) maxTasks
+    || any (λ j. ltb (scheduleCount (L .schedule)) (getD (L .state .positions) j 0)) suppliers
+
+pub record StateFits (L : Advance) : Type 0 where
+  pub pending : L .state .pending < length (L .code) / wordsEach
+  pub current : L .state .current < length (L .code) / wordsEach
+  pub elapsed : L .state .elapsed ≤ maxElapsed
+  pub remaining : L .state .remaining ≤ maxRemaining
+  pub left : (t : ℕ) → t < maxTasks → leftOf (L .state .left) t ≤ maxLeft
+  pub positions : (j : ℕ) → j < suppliers → getD (L .state .positions) j 0 ≤ scheduleCount (L .schedule)
+
+-- the static verdict: 1 to 11, 13, 21
+unfoldable pub advanceVerdict : Advance → ℕ
+advanceVerdict L =
+    verdict
+    (record { number = 1; applies = advanceShapeBad }
+    ∷ (map (within (λ (L : Advance). L .tables)) (tableRefusals ++ (longRefusal ∷ []))
+    ++ (record { number = 13; applies = λ L. joinedBad (L .tables) (L .schedule) }
+    ∷ record { number = 21; applies = stateBad }
+    ∷ [])))
+    L
+
+abbrev pub advanceRules : List (Rule Advance)
+advanceRules =
+    record { number = 1; holds = AdvanceShaped }
+    ∷ (map (holding (λ (L : Advance). L .tables)) (tableRules ++ (longRule ∷ []))
+    ++ (record { number = 13; holds = λ L. Joined (L .tables) (L .schedule) }
+    ∷ record { number = 21; holds = StateFits }
+    ∷ []))
+
+-- the step: E code if no tick of the unit remains, then one tick of the schedules
+abbrev pub ready : Program → List Op → List ℤ → List ℤ → State → Outcome
+ready P code readings times s = elim (s .remaining) [ zero ↦ instant P readings times code s | suc n ↦ ok s ]
+
+abbrev pub step : Program → List Op → List ℤ → Lent → State → Outcome
+step P code S X s = elim (ready P code (X .readings) (X .times) s) [ ok u ↦ tick P S (X .results) u | stop n ↦ stop n ]
+
+abbrev pub answer : State → Outcome → Advanced
+answer s (ok u) = record { number = 0; state = u }
+answer s (stop n) = record { number = n; state = s }
+
+unfoldable pub advanceAnswer : Advance → Advanced
+advanceAnswer L = elim (advanceVerdict L) [
+  | zero ↦ answer (L .state) (step (programOf (L .tables)) (instructions (L .code)) (L .schedule) (L .lent) (L .state))
+  | suc n ↦ record { number = suc n; state = L .state }
+]

@@ -1,0 +1,82 @@
+-- One instant of the E machine: from the pending address to `return`, with its count of instructions.
+-- "One instant runs more instructions than the E code has" is 20; "running off the end is 19, never 20". Assumes nothing.
+use Prim.Native.Nat.{ℕ, zero, suc, _≤_, _<_}
+use mathlib.Core.Path.{_≡_}
+use mathlib.Core.Bool.{Bool, true, false}
+use mathlib.Core.List.{List}
+use mathlib.Core.Logic.{_⊎_, _↔_}
+use lib.Dec.{ltb}
+use lib.IntN.{ℤ}
+use lib.ListN.{length, getD}
+use Rattle.theory.specs.Verdict.{verdict}
+use Rattle.program.specs.Program.{Program}
+use Rattle.code.specs.Op.{Op, call, schedule, branch, jump, future, return, faulty}
+use Rattle.machine.specs.declared.State.{State}
+use Rattle.machine.specs.Instruction.{At, instructionRefusals, does}
+
+-- what an instant, or a whole advance, comes to
+pub data Outcome : Type 0 where
+  ok : State → Outcome
+  stop : ℕ → Outcome
+
+abbrev pub isReturn : Op → Bool
+isReturn (call c) = false
+isReturn (schedule t) = false
+isReturn (branch d a) = false
+isReturn (jump a) = false
+isReturn (future d a) = false
+isReturn return = true
+isReturn faulty = false
+
+module _ (P : Program) (readings times : List ℤ) (code : List Op) where
+  -- the instruction at an address; past the end stands none
+  abbrev pub fetch : At → Op
+  fetch a = getD code (a .address) faulty
+
+  -- 19, 16, 17, or 0
+  abbrev pub refusalAt : At → ℕ
+  refusalAt a = verdict (instructionRefusals P readings times (length code) (fetch a)) a
+
+  -- at most `count` instructions more
+  abbrev pub run : ℕ → At → Outcome
+  run zero a = elim (ltb (a .address) (length code)) [ true ↦ stop 20 | false ↦ stop 19 ]
+  run (suc count) a = elim (refusalAt a) [
+    | zero ↦ elim (isReturn (fetch a)) [ true ↦ ok (a .state) | false ↦ run count (does P readings times (fetch a) a) ]
+    | suc n ↦ stop (suc n)
+  ]
+
+  abbrev pub startAt : State → At
+  startAt s = record { address = s .pending; planned = false; state = s }
+
+  abbrev pub instant : State → Outcome
+  instant s = run (length code) (startAt s)
+
+  -- The same as claims: n instructions, none refused and none a `return`, lead from a to b
+  abbrev pub Goes : ℕ → At → At → Type 0
+  Goes zero a b = a ≡ b
+  Goes (suc n) a b = (refusalAt a ≡ 0) × (isReturn (fetch a) ≡ false) × Goes n (does P readings times (fetch a) a) b
+
+  -- from a, in at most `count` instructions: the last one is a `return` that is not refused, and leaves s
+  pub record Ends (count : ℕ) (a : At) (s : State) : Type 0 where
+    pub before : ℕ
+    pub last : At
+    pub in-count : before < count
+    pub goes : Goes before a last
+    pub not-refused : refusalAt last ≡ 0
+    pub returns : isReturn (fetch last) ≡ true
+    pub leaves : last .state ≡ s
+
+  -- the last one is refused, with 19, 16 or 17
+  pub record RefusedAt (count : ℕ) (a : At) (number : ℕ) : Type 0 where
+    pub before : ℕ
+    pub last : At
+    pub in-count : before < count
+    pub goes : Goes before a last
+    pub some-number : 1 ≤ number
+    pub refused : refusalAt last ≡ number
+
+  -- all were run: one more inside the code is 20, running off the end 19
+  pub record Spent (count : ℕ) (a : At) (number : ℕ) : Type 0 where
+    pub last : At
+    pub goes : Goes count a last
+    pub spent : ((last .address < length code) × (number ≡ 20)) ⊎ ((length code ≤ last .address) × (number ≡ 19))

@@ -1,0 +1,6 @@
+-- The machine: one instruction, one instant, one tick of the schedules, a fresh state, an advance.
+pub mod Change
+pub mod Instruction
+pub mod Instant
+pub mod Schedules
+pub mod Advance

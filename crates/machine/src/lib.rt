@@ -1,0 +1,21 @@
+// The composed machine: its state, and what fresh and advance answer.
+
+// Port values, local outputs, time stamp, pending address, current `future` address, elapsed and remaining ticks of the
+// unit, remaining time per task, position per supplier (rows of its block passed).
+pub struct State {
+    pub ports: [i32; 64],
+    pub outputs: [i32; 64],
+    pub time: u32,
+    pub pending: usize,
+    pub current: usize,
+    pub elapsed: usize,
+    pub remaining: usize,
+    pub left: [usize; 32],
+    pub positions: [usize; 8],
+}
+
+// The number, and the state handed back: as before on a refusal.
+pub struct Advanced {
+    pub number: usize,
+    pub state: State,
+}

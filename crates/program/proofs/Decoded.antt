@@ -1,0 +1,116 @@
+-- The program that the tables say: its parts are the tables' rows, by number and those that are due; the next unit.
+-- Assumes nothing; of a part by number, that it is declared.
+use Prim.Native.Nat.{ℕ, suc, _%_, _<_}
+use mathlib.Core.Path.{_≡_, refl, sym}
+use mathlib.Core.Bool.{Bool, true, false, _&&_}
+use mathlib.Core.Logic.{_↔_, Iff·trans}
+use native.Mathlib.Nat.{mod-self, mod-eq-of-lt, mod-lt}
+use native.Mathlib.Omega.{arith}
+use lib.Dec.{eqb}
+use lib.ListN.{length}
+use borrow.Author.Tests.{eqb-true, eqb-false, eq-eqb}
+use Rattle.theory.specs.Claim.{Says}
+use Rattle.theory.specs.Lists.{those, keep, member}
+use Rattle.theory.proofs.Bools.{clash, says-eq, is-true, _and_}
+use Rattle.theory.proofs.Lists.{each-length, each-at, every-each, every-at}
+use Rattle.theory.proofs.Members.{Has, has-those, has-keep, has-map, member-says}
+use Rattle.program.specs.Tables.{Tables, output, taskCount, taskPortCount, tpTask, tpPort, driverCount, copyCount, copyDriver, modeCount, invocationCount, invMode, invFrequency, invTask, updateCount, updMode, updFrequency, switchCount, swMode, swFrequency}
+use Rattle.program.specs.Sets.{isKind, Kind}
+use Rattle.program.specs.Units.{units, due}
+use Rattle.program.specs.Program.{Copy, Task, Invocation, Update, Switch, Mode, copyRow, driverRow, portsOf, taskRow, invocationRow, updateRow, switchRow, modeRow, programOf, task, driver, mode, nextUnit, dueInvocations, dueUpdates, dueSwitches, dueTasks}
+use Rattle.program.proofs.Sets.{kind-says}
+
+-- the unit after one of a mode's units, around the round
+pub next-around : (M : Mode) (k : ℕ) → k < M .units → nextUnit M k ≡ suc k % M .units
+next-around M k l = go (eqb (suc k) (M .units)) refl
+  where
+    go : (b : Bool) → eqb (suc k) (M .units) ≡ b → elim b as (λ b. ℕ) [ true ↦ 0 | false ↦ suc k ] ≡ suc k % M .units
+    go true e = rw (eqb-true (suc k) (M .units) e) (sym (mod-self (M .units)))
+    go false e = let h : suc k < M .units = omega (arith, eqb-false (suc k) (M .units) e) in sym (mod-eq-of-lt h)
+
+-- it is one of them
+pub next-below : (M : Mode) (k : ℕ) → k < M .units → nextUnit M k < M .units
+next-below M k l = rw (next-around M k l) (mod-lt (suc k) {m = M .units} (omega arith))
+
+module _ (T : Tables) where
+  -- the program has as many modes as the tables have rows
+  pub mode-count : length (programOf T .modes) ≡ modeCount T
+  mode-count = each-length (modeRow T) (modeCount T) 0
+
+  -- the task of a declared number is its row
+  pub task-row : (t : ℕ) → t < taskCount T → task (programOf T) t ≡ taskRow T t
+  task-row t h = each-at (taskRow T) (taskCount T) t _ h
+
+  -- the driver of a declared number is its row
+  pub driver-row : (d : ℕ) → d < driverCount T → driver (programOf T) d ≡ driverRow T d
+  driver-row d h = each-at (driverRow T) (driverCount T) d _ h
+
+  -- the mode of a declared number is its row
+  pub mode-row : (m : ℕ) → m < modeCount T → mode (programOf T) m ≡ modeRow T m
+  mode-row m h = each-at (modeRow T) (modeCount T) m _ h
+
+  -- some copy of a driver
+  pub has-copies : (Q : Copy → Type 0) (d : ℕ)
+      → Has Q (driverRow T d .copies) ↔ ((c : ℕ) × (c < copyCount T) × (copyDriver T c ≡ d) × Q (copyRow T c))
+  has-copies Q d =
+      let r = has-those Q (λ c. eqb (copyDriver T c) d) (copyRow T) (copyCount T) in (
+        λ h. let w = r .0 h in (w .0, w .1, eqb-true (copyDriver T (w .0)) d (w .2), w .3),
+        λ w. r .1 (w .0, w .1, eq-eqb (copyDriver T (w .0)) d (w .2), w .3),
+      )
+
+  -- some port of this kind of a task
+  pub has-ports : (Q : ℕ → Type 0) (kind t : ℕ)
+      → Has Q (portsOf T kind t)
+      ↔ ((k : ℕ) × (k < taskPortCount T) × ((tpTask T k ≡ t) × Kind T kind (tpPort T k)) × Q (tpPort T k))
+  has-ports Q kind t =
+      let r = has-those Q (λ k. eqb (tpTask T k) t && isKind T kind (tpPort T k)) (tpPort T) (taskPortCount T) in (
+        λ h. let w = r .0 h in (w .0, w .1, test (w .0) .yes (w .2), w .3),
+        λ w. r .1 (w .0, w .1, is-true (test (w .0)) (w .2), w .3),
+      )
+    where
+      test : (k : ℕ) → Says (eqb (tpTask T k) t && isKind T kind (tpPort T k)) ((tpTask T k ≡ t) × Kind T kind (tpPort T k))
+      test k = says-eq (tpTask T k) t and kind-says T kind (tpPort T k)
+
+  -- an output of a task, of whatever number, is a declared output port
+  pub output-declared : (t p : ℕ) → member p (task (programOf T) t .outputs) ≡ true → Kind T output p
+  output-declared t p =
+      every-at (λ (K : Task). member p (K .outputs) ≡ true → Kind T output p) (programOf T .tasks) _ (λ m. clash {b = false} m refl)
+      (every-each _ (taskRow T) (taskCount T) 0
+      (λ i l u m.
+      let (k, h, (e, q), s) = has-ports (λ x. p ≡ x) output i .0 (member-says p (portsOf T output i) .yes m) in rw s q)) t
+
+  -- some row of a table of n rows is of mode m, due at its unit k, and has Q
+  abbrev pub DueRow : ℕ → (ℕ → ℕ) → (ℕ → ℕ) → ℕ → ℕ → (ℕ → Type 0) → Type 0
+  DueRow n modeOf frequency m k Q = (i : ℕ) × (i < n) × (modeOf i ≡ m) × (due (units T m) (frequency i) k ≡ true) × Q i
+
+  has-due : {R : Type 0} (Q : R → Type 0) (frequency : R → ℕ) (modeOf : ℕ → ℕ) (row : ℕ → R) (n m k : ℕ)
+      → Has Q (keep (λ r. due (units T m) (frequency r) k) (those (λ i. eqb (modeOf i) m) row n 0))
+      ↔ DueRow n modeOf (λ i. frequency (row i)) m k (λ i. Q (row i))
+  has-due Q frequency modeOf row n m k =
+      let s = has-keep Q (λ r. due (units T m) (frequency r) k) (those (λ i. eqb (modeOf i) m) row n 0) in
+      let r = has-those (λ r. (due (units T m) (frequency r) k ≡ true) × Q r) (λ i. eqb (modeOf i) m) row n in (
+        λ h. let w = r .0 (s .0 h) in (w .0, w .1, eqb-true (modeOf (w .0)) m (w .2), w .3 .0, w .3 .1),
+        λ w. s .1 (r .1 (w .0, w .1, eq-eqb (modeOf (w .0)) m (w .2), (w .3, w .4))),
+      )
+
+  module _ (m k : ℕ) (l : m < modeCount T) where
+    -- some invocation of a mode that is due
+    pub has-invocations : (Q : Invocation → Type 0)
+        → Has Q (dueInvocations (mode (programOf T) m) k)
+        ↔ DueRow (invocationCount T) (invMode T) (invFrequency T) m k (λ i. Q (invocationRow T i))
+    has-invocations Q = rw (mode-row m l) (has-due Q (λ r. r .frequency) (invMode T) (invocationRow T) (invocationCount T) m k)
+
+    -- some task of a mode that is due
+    pub has-tasks : (Q : ℕ → Type 0)
+        → Has Q (dueTasks (mode (programOf T) m) k) ↔ DueRow (invocationCount T) (invMode T) (invFrequency T) m k (λ i. Q (invTask T i))
+    has-tasks Q = Iff·trans (has-map Q (λ r. r .task) (dueInvocations (mode (programOf T) m) k)) (has-invocations (λ r. Q (r .task)))
+
+    -- some update of a mode that is due
+    pub has-updates : (Q : Update → Type 0)
+        → Has Q (dueUpdates (mode (programOf T) m) k) ↔ DueRow (updateCount T) (updMode T) (updFrequency T) m k (λ i. Q (updateRow T i))
+    has-updates Q = rw (mode-row m l) (has-due Q (λ r. r .frequency) (updMode T) (updateRow T) (updateCount T) m k)
+
+    -- some switch of a mode that is due
+    pub has-switches : (Q : Switch → Type 0)
+        → Has Q (dueSwitches (mode (programOf T) m) k) ↔ DueRow (switchCount T) (swMode T) (swFrequency T) m k (λ i. Q (switchRow T i))
+    has-switches Q = rw (mode-row m l) (has-due Q (λ r. r .frequency) (swMode T) (switchRow T) (switchCount T) m k)

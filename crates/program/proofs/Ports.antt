@@ -1,0 +1,32 @@
+-- What a driver's moves and a task's outputs write, as assignments to the ports.
+-- Assumes nothing; `takes-at`, that the port lies inside.
+use Prim.Native.Nat.{ℕ, _<_}
+use mathlib.Core.Path.{_≡_, ap, sym, _∙_}
+use mathlib.Core.Bool.{true}
+use mathlib.Core.List.{List, map}
+use mathlib.Core.Logic.{_↔_, Iff·trans}
+use lib.IntN.{ℤ, pos}
+use lib.ListN.{length}
+use Rattle.theory.specs.Lists.{gather, member, Put, puts}
+use Rattle.theory.proofs.Members.{Has, has-then, has-as, has-map, has-gather, member-says}
+use Rattle.theory.proofs.Puts.{Wrote, puts-at}
+use Rattle.program.specs.Program.{Driver}
+use Rattle.program.specs.Ports.{valueOf, takes, moves}
+
+-- ports that take values: each gets its own
+pub wrote-takes : (value : ℕ → ℤ) (ps : List ℕ) (p : ℕ) (x : ℤ) → Wrote (takes value ps) p x ↔ Has (λ q. (q ≡ p) × (x ≡ value q)) ps
+wrote-takes value ps p x = has-map (λ a. (a .place ≡ p) × (x ≡ a .value)) (λ q. record { place = q; value = value q }) ps
+
+-- each has it afterwards
+pub takes-at : (value : ℕ → ℤ) (ps : List ℕ) (v : List ℤ) (p : ℕ) → p < length v → member p ps ≡ true → valueOf (puts (takes value ps) v) p ≡ value p
+takes-at value ps v p l m =
+    puts-at (pos 0) (takes value ps) v p (value p) l
+    (wrote-takes value ps p (value p) .1 (has-as _ _ ps (λ q e. (sym e, ap value e)) (member-says p ps .yes m)))
+    (λ y w. has-then _ ps (λ q e. e .1 ∙ ap value (e .0)) (wrote-takes value ps p y .0 w))
+
+-- several drivers write what each writes
+pub wrote-all : {R : Type 0} (v : List ℤ) (f : R → Driver) (rows : List R) (p : ℕ) (x : ℤ)
+    → Wrote (gather (moves v) (map f rows)) p x ↔ Has (λ r. Wrote (moves v (f r)) p x) rows
+wrote-all v f rows p x =
+    Iff·trans (has-gather (λ (a : Put). (a .place ≡ p) × (x ≡ a .value)) (moves v) (map f rows))
+    (has-map (λ D. Wrote (moves v D) p x) f rows)

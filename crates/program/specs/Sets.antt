@@ -1,0 +1,79 @@
+-- The sets of 001 that the tables declare: ports by kind, inputs and outputs of a task, mode ports, sources and destinations
+-- of a driver. Each twice: as a test, and as a claim with its quantifier over rows.
+-- Assumes nothing.
+use Prim.Native.Nat.{ℕ, _<_}
+use mathlib.Core.Path.{_≡_}
+use mathlib.Core.Bool.{Bool, _&&_, _||_}
+use mathlib.Core.Logic.{_⊎_}
+use lib.Dec.{eqb, ltb}
+use Rattle.theory.specs.Search.{any}
+use Rattle.program.specs.Tables.{Tables, portCount, portKind, sensor, actuator, input, output, taskPortCount, tpTask, tpPort, guardKind, guardPort, kindInterval, copyCount, copyDriver, copySource, copyDestination, modePortCount, mpMode, mpPort}
+
+-- p is a declared port of this kind
+unfoldable pub isKind : Tables → ℕ → ℕ → Bool
+isKind T kind p = ltb p (portCount T) && eqb (portKind T p) kind
+
+-- row k of the task ports is (t, p), row k of the mode ports is (m, p)
+unfoldable pub isTaskPort : Tables → ℕ → ℕ → ℕ → Bool
+isTaskPort T t p k = eqb (tpTask T k) t && eqb (tpPort T k) p
+
+unfoldable pub modePortAt : Tables → ℕ → ℕ → ℕ → Bool
+modePortAt T m p k = eqb (mpMode T k) m && eqb (mpPort T k) p
+
+-- p is an input of task t, an output of task t
+unfoldable pub isInput : Tables → ℕ → ℕ → Bool
+isInput T t p = isKind T input p && any (isTaskPort T t p) (taskPortCount T)
+
+unfoldable pub isOutput : Tables → ℕ → ℕ → Bool
+isOutput T t p = isKind T output p && any (isTaskPort T t p) (taskPortCount T)
+
+-- p is a port of mode m
+unfoldable pub isModePort : Tables → ℕ → ℕ → Bool
+isModePort T m p = any (modePortAt T m p) (modePortCount T)
+
+-- row c of the copies is one of driver d, from p; one of driver d, to p
+unfoldable pub copiesFrom : Tables → ℕ → ℕ → ℕ → Bool
+copiesFrom T d p c = eqb (copyDriver T c) d && eqb (copySource T c) p
+
+unfoldable pub copiesTo : Tables → ℕ → ℕ → ℕ → Bool
+copiesTo T d p c = eqb (copyDriver T c) d && eqb (copyDestination T c) p
+
+-- the sources of a driver are its copies' sources and its interval guard's port
+unfoldable pub isSource : Tables → ℕ → ℕ → Bool
+isSource T d p = any (copiesFrom T d p) (copyCount T) || (eqb (guardKind T d) kindInterval && eqb (guardPort T d) p)
+
+unfoldable pub isDestination : Tables → ℕ → ℕ → Bool
+isDestination T d p = any (copiesTo T d p) (copyCount T)
+
+-- The same as claims.
+abbrev pub Kind : Tables → ℕ → ℕ → Type 0
+Kind T kind p = (p < portCount T) × (portKind T p ≡ kind)
+
+abbrev pub Sensor : Tables → ℕ → Type 0
+Sensor T = Kind T sensor
+
+abbrev pub Actuator : Tables → ℕ → Type 0
+Actuator T = Kind T actuator
+
+abbrev pub TaskPort : Tables → ℕ → ℕ → Type 0
+TaskPort T t p = (k : ℕ) × (k < taskPortCount T) × ((tpTask T k ≡ t) × (tpPort T k ≡ p))
+
+-- In[t], Out[t]
+abbrev pub Input : Tables → ℕ → ℕ → Type 0
+Input T t p = Kind T input p × TaskPort T t p
+
+abbrev pub Output : Tables → ℕ → ℕ → Type 0
+Output T t p = Kind T output p × TaskPort T t p
+
+-- ModePorts[m]
+abbrev pub ModePort : Tables → ℕ → ℕ → Type 0
+ModePort T m p = (k : ℕ) × (k < modePortCount T) × ((mpMode T k ≡ m) × (mpPort T k ≡ p))
+
+-- Src[d], Dst[d]
+abbrev pub Source : Tables → ℕ → ℕ → Type 0
+Source T d p =
+    ((c : ℕ) × (c < copyCount T) × ((copyDriver T c ≡ d) × (copySource T c ≡ p)))
+    ⊎ ((guardKind T d ≡ kindInterval) × (guardPort T d ≡ p))
+
+abbrev pub Destination : Tables → ℕ → ℕ → Type 0
+Destination T d p = (c : ℕ) × (c < copyCount T) × ((copyDriver T c ≡ d) × (copyDestination T c ≡ p))

@@ -1,0 +1,208 @@
+-- The ten tables of a program and its start mode, as they are lent: columns by name, rows by number.
+-- Assumes nothing.
+use Prim.Native.Nat.{ℕ}
+use mathlib.Core.List.{List}
+use lib.IntN.{ℤ}
+use Rattle.cells.specs.Cell.{indexOf, nameOf, rowsIn, fieldAt, namedAt, valueAt}
+
+pub record Tables : Type 0 where
+  pub ports : List ℤ
+  pub tasks : List ℤ
+  pub taskPorts : List ℤ
+  pub drivers : List ℤ
+  pub copies : List ℤ
+  pub modes : List ℤ
+  pub modePorts : List ℤ
+  pub invocations : List ℤ
+  pub updates : List ℤ
+  pub switches : List ℤ
+  pub start : ℤ
+
+abbrev pub tables : List ℤ → List ℤ → List ℤ → List ℤ → List ℤ → List ℤ → List ℤ → List ℤ → List ℤ → List ℤ → ℤ → Tables
+tables ports tasks taskPorts drivers copies modes modePorts invocations updates switches start =
+    record {
+      ports = ports;
+      tasks = tasks;
+      taskPorts = taskPorts;
+      drivers = drivers;
+      copies = copies;
+      modes = modes;
+      modePorts = modePorts;
+      invocations = invocations;
+      updates = updates;
+      switches = switches;
+      start = start;
+    }
+
+-- ports: kind (0 sensor, 1 actuator, 2 task input, 3 task output), first value
+abbrev pub portWidth : ℕ
+portWidth = 2
+
+abbrev pub portCount : Tables → ℕ
+portCount T = rowsIn portWidth (T .ports)
+
+abbrev pub portKind : Tables → ℕ → ℕ
+portKind T = fieldAt portWidth 0 (T .ports)
+
+abbrev pub portFirst : Tables → ℕ → ℤ
+portFirst T = valueAt portWidth 1 (T .ports)
+
+abbrev pub sensor : ℕ
+sensor = 0
+
+abbrev pub actuator : ℕ
+actuator = 1
+
+abbrev pub input : ℕ
+input = 2
+
+abbrev pub output : ℕ
+output = 3
+
+-- tasks: supplier 0..7, worst-case time 1..4,096
+abbrev pub taskWidth : ℕ
+taskWidth = 2
+
+abbrev pub taskCount : Tables → ℕ
+taskCount T = rowsIn taskWidth (T .tasks)
+
+abbrev pub taskSupplier : Tables → ℕ → ℕ
+taskSupplier T = fieldAt taskWidth 0 (T .tasks)
+
+abbrev pub taskWorst : Tables → ℕ → ℕ
+taskWorst T = fieldAt taskWidth 1 (T .tasks)
+
+-- task ports: task, port
+abbrev pub taskPortWidth : ℕ
+taskPortWidth = 2
+
+abbrev pub taskPortCount : Tables → ℕ
+taskPortCount T = rowsIn taskPortWidth (T .taskPorts)
+
+abbrev pub tpTask : Tables → ℕ → ℕ
+tpTask T = namedAt taskPortWidth 0 (T .taskPorts)
+
+abbrev pub tpPort : Tables → ℕ → ℕ
+tpPort T = namedAt taskPortWidth 1 (T .taskPorts)
+
+-- drivers: guard kind (0 always, 1 interval), port, low, high
+abbrev pub driverWidth : ℕ
+driverWidth = 4
+
+abbrev pub driverCount : Tables → ℕ
+driverCount T = rowsIn driverWidth (T .drivers)
+
+abbrev pub guardKind : Tables → ℕ → ℕ
+guardKind T = fieldAt driverWidth 0 (T .drivers)
+
+abbrev pub guardPort : Tables → ℕ → ℕ
+guardPort T = namedAt driverWidth 1 (T .drivers)
+
+abbrev pub guardLow : Tables → ℕ → ℤ
+guardLow T = valueAt driverWidth 2 (T .drivers)
+
+abbrev pub guardHigh : Tables → ℕ → ℤ
+guardHigh T = valueAt driverWidth 3 (T .drivers)
+
+abbrev pub kindAlways : ℕ
+kindAlways = 0
+
+abbrev pub kindInterval : ℕ
+kindInterval = 1
+
+-- copies: driver, source, destination
+abbrev pub copyWidth : ℕ
+copyWidth = 3
+
+abbrev pub copyCount : Tables → ℕ
+copyCount T = rowsIn copyWidth (T .copies)
+
+abbrev pub copyDriver : Tables → ℕ → ℕ
+copyDriver T = namedAt copyWidth 0 (T .copies)
+
+abbrev pub copySource : Tables → ℕ → ℕ
+copySource T = namedAt copyWidth 1 (T .copies)
+
+abbrev pub copyDestination : Tables → ℕ → ℕ
+copyDestination T = namedAt copyWidth 2 (T .copies)
+
+-- modes: period 1..4,096 ticks
+abbrev pub modeWidth : ℕ
+modeWidth = 1
+
+abbrev pub modeCount : Tables → ℕ
+modeCount T = rowsIn modeWidth (T .modes)
+
+abbrev pub modePeriod : Tables → ℕ → ℕ
+modePeriod T = fieldAt modeWidth 0 (T .modes)
+
+-- mode ports: mode, port
+abbrev pub modePortWidth : ℕ
+modePortWidth = 2
+
+abbrev pub modePortCount : Tables → ℕ
+modePortCount T = rowsIn modePortWidth (T .modePorts)
+
+abbrev pub mpMode : Tables → ℕ → ℕ
+mpMode T = namedAt modePortWidth 0 (T .modePorts)
+
+abbrev pub mpPort : Tables → ℕ → ℕ
+mpPort T = namedAt modePortWidth 1 (T .modePorts)
+
+-- invocations: mode, frequency, task, driver
+abbrev pub invocationWidth : ℕ
+invocationWidth = 4
+
+abbrev pub invocationCount : Tables → ℕ
+invocationCount T = rowsIn invocationWidth (T .invocations)
+
+abbrev pub invMode : Tables → ℕ → ℕ
+invMode T = namedAt invocationWidth 0 (T .invocations)
+
+abbrev pub invFrequency : Tables → ℕ → ℕ
+invFrequency T = fieldAt invocationWidth 1 (T .invocations)
+
+abbrev pub invTask : Tables → ℕ → ℕ
+invTask T = namedAt invocationWidth 2 (T .invocations)
+
+abbrev pub invDriver : Tables → ℕ → ℕ
+invDriver T = namedAt invocationWidth 3 (T .invocations)
+
+-- updates: mode, frequency, driver
+abbrev pub updateWidth : ℕ
+updateWidth = 3
+
+abbrev pub updateCount : Tables → ℕ
+updateCount T = rowsIn updateWidth (T .updates)
+
+abbrev pub updMode : Tables → ℕ → ℕ
+updMode T = namedAt updateWidth 0 (T .updates)
+
+abbrev pub updFrequency : Tables → ℕ → ℕ
+updFrequency T = fieldAt updateWidth 1 (T .updates)
+
+abbrev pub updDriver : Tables → ℕ → ℕ
+updDriver T = namedAt updateWidth 2 (T .updates)
+
+-- switches: mode, frequency, target mode, driver
+abbrev pub switchWidth : ℕ
+switchWidth = 4
+
+abbrev pub switchCount : Tables → ℕ
+switchCount T = rowsIn switchWidth (T .switches)
+
+abbrev pub swMode : Tables → ℕ → ℕ
+swMode T = namedAt switchWidth 0 (T .switches)
+
+abbrev pub swFrequency : Tables → ℕ → ℕ
+swFrequency T = fieldAt switchWidth 1 (T .switches)
+
+abbrev pub swTarget : Tables → ℕ → ℕ
+swTarget T = namedAt switchWidth 2 (T .switches)
+
+abbrev pub swDriver : Tables → ℕ → ℕ
+swDriver T = namedAt switchWidth 3 (T .switches)
+
+-- the start mode, a number beside them
+abbrev pub startMode : Tables → ℕ
+startMode T = nameOf (indexOf (T .start))

@@ -1,0 +1,57 @@
+-- Units: "the units of a mode are the least common multiple of its frequencies (1 if none)"; when a row is due.
+-- Assumes nothing.
+use Prim.Native.Nat.{ℕ, suc, _/_, _%_, _≤_, _<_, _∣_}
+use mathlib.Core.Path.{_≡_}
+use mathlib.Core.Bool.{Bool, not, _&&_, _||_}
+use mathlib.Core.Logic.{_⊎_}
+use lib.Dec.{eqb}
+use Rattle.theory.specs.Search.{any, first}
+use Rattle.cells.specs.Limits.{maxUnits}
+use Rattle.program.specs.Tables.{Tables, invocationCount, invMode, invFrequency, updateCount, updMode, updFrequency, switchCount, swMode, swFrequency}
+
+-- u is not a multiple of the frequency f
+unfoldable pub misses : ℕ → ℕ → Bool
+misses u f = not (eqb (u % f) 0)
+
+-- row i is of mode m, and u is not a multiple of its frequency
+unfoldable pub invMisses : Tables → ℕ → ℕ → ℕ → Bool
+invMisses T m u i = eqb (invMode T i) m && misses u (invFrequency T i)
+
+unfoldable pub updMisses : Tables → ℕ → ℕ → ℕ → Bool
+updMisses T m u i = eqb (updMode T i) m && misses u (updFrequency T i)
+
+unfoldable pub swMisses : Tables → ℕ → ℕ → ℕ → Bool
+swMisses T m u i = eqb (swMode T i) m && misses u (swFrequency T i)
+
+-- u is a multiple of every frequency of mode m
+unfoldable pub isMultiple : Tables → ℕ → ℕ → Bool
+isMultiple T m u =
+    not
+    (any (invMisses T m u) (invocationCount T)
+    || any (updMisses T m u) (updateCount T)
+    || any (swMisses T m u) (switchCount T))
+
+-- the least number from 1 to 64 that is a multiple of every frequency of mode m; 65 where there is none
+unfoldable pub units : Tables → ℕ → ℕ
+units T m = suc (first (λ u. isMultiple T m (suc u)) maxUnits)
+
+-- a row of frequency f is due at unit k of u when k is a multiple of u / f
+abbrev pub due : ℕ → ℕ → ℕ → Bool
+due u f k = eqb (k % (u / f)) 0
+
+-- The same as claims. The mode frequencies of m (001, section 3.2)
+abbrev pub Frequency : Tables → ℕ → ℕ → Type 0
+Frequency T m f =
+    ((i : ℕ) × (i < invocationCount T) × ((invMode T i ≡ m) × (invFrequency T i ≡ f)))
+    ⊎ (((i : ℕ) × (i < updateCount T) × ((updMode T i ≡ m) × (updFrequency T i ≡ f)))
+    ⊎ ((i : ℕ) × (i < switchCount T) × ((swMode T i ≡ m) × (swFrequency T i ≡ f))))
+
+-- u is a multiple of each of them
+abbrev pub Multiple : Tables → ℕ → ℕ → Type 0
+Multiple T m u = (f : ℕ) → Frequency T m f → f ∣ u
+
+-- u is the least common multiple: a multiple of each frequency that divides every such multiple
+pub record Units (T : Tables) (m u : ℕ) : Type 0 where
+  pub some : 1 ≤ u
+  pub multiple : Multiple T m u
+  pub least : (w : ℕ) → Multiple T m w → u ∣ w

@@ -1,0 +1,89 @@
+-- The rules that an accepted program keeps, whatever its numbers are: all but number 8, which asks for numbers of 32 bits.
+-- Assumes that the verdict on the tables is 0, or that a call that is lent more than the tables is not refused.
+use Prim.Native.Nat.{ℕ, _≤_, _<_}
+use mathlib.Core.Path.{_≡_}
+use mathlib.Core.Bool.{Bool, false}
+use mathlib.Core.List.{List, _∷_, _++_, map}
+use native.Mathlib.Omega.{arith}
+use Rattle.theory.specs.Verdict.{Refusal, within, verdict}
+use Rattle.theory.proofs.Verdict.{Clear, verdict-clear, clear-verdict, verdict-both}
+use Rattle.cells.specs.Limits.{maxUnits}
+use Rattle.program.specs.Tables.{Tables, modeCount}
+use Rattle.program.specs.Units.{units, Units}
+use Rattle.program.proofs.Units.{units-least}
+use Rattle.rules.specs.Shape.{shapeBad, Shaped}
+use Rattle.rules.specs.Fields.{Fields}
+use Rattle.rules.specs.Declared.{TaskPorts, Copies, ModePorts}
+use Rattle.rules.specs.Modes.{Invocations, Updates}
+use Rattle.rules.specs.Timing.{UnitsFit, Whole}
+use Rattle.rules.specs.Verdict.{shapeRefusal, tableRefusals, programVerdict}
+use Rattle.rules.proofs.Shape.{shape-bars}
+use Rattle.rules.proofs.Fields.{fields-bar}
+use Rattle.rules.proofs.Declared.{task-ports-bar, copies-bar, mode-ports-bar}
+use Rattle.rules.proofs.Modes.{invocations-bar, updates-bar}
+use Rattle.rules.proofs.Timing.{units-bar, whole-bars, units-few}
+
+module _ (T : Tables) (a : programVerdict T ≡ 0) where
+  -- no test of the verdict applies
+  pub accepted-clear : Clear (shapeRefusal ∷ tableRefusals) T
+  unfolding programVerdict
+  accepted-clear = verdict-clear (shapeRefusal ∷ tableRefusals) T (omega arith) a
+
+  -- rule 1: whole rows within the limits, and some mode
+  pub accepted-shaped : Shaped T
+  accepted-shaped = shape-bars T .ok (accepted-clear .0)
+
+  -- rule 2: fields in range, and names that name something
+  pub accepted-fields : Fields T
+  accepted-fields = fields-bar T .ok (accepted-clear .1 .0)
+
+  -- rule 3: task ports
+  pub accepted-task-ports : TaskPorts T
+  accepted-task-ports = task-ports-bar T .ok (accepted-clear .1 .1 .0)
+
+  -- rule 4: copies
+  pub accepted-copies : Copies T
+  accepted-copies = copies-bar T .ok (accepted-clear .1 .1 .1 .0)
+
+  -- rule 5: mode ports
+  pub accepted-mode-ports : ModePorts T
+  accepted-mode-ports = mode-ports-bar T .ok (accepted-clear .1 .1 .1 .1 .0)
+
+  -- rule 6: invocations
+  pub accepted-invocations : Invocations T
+  accepted-invocations = invocations-bar T .ok (accepted-clear .1 .1 .1 .1 .1 .0)
+
+  -- rule 7: updates
+  pub accepted-updates : Updates T
+  accepted-updates = updates-bar T .ok (accepted-clear .1 .1 .1 .1 .1 .1 .0)
+
+  -- rule 9: units that fit
+  pub accepted-units-fit : UnitsFit T
+  accepted-units-fit = units-bar T .ok (accepted-clear .1 .1 .1 .1 .1 .1 .1 .1 .0)
+
+  -- rule 10: task frequencies that are multiples of switch frequencies
+  pub accepted-whole : Whole T
+  accepted-whole = whole-bars T .ok (accepted-clear .1 .1 .1 .1 .1 .1 .1 .1 .1 .0)
+
+  -- a declared mode has no more units than the limit
+  pub accepted-units : (m : ℕ) → m < modeCount T → units T m ≤ maxUnits
+  accepted-units = units-few T accepted-units-fit
+
+  -- they are the least common multiple of its frequencies
+  pub accepted-least : (m : ℕ) → m < modeCount T → Units T m (units T m)
+  accepted-least m l = units-least T m (accepted-units m l)
+
+-- a call that is lent the tables and more, refuses for its own shape and then as the program's verdict does, and is not refused:
+-- the program is accepted
+pub lent-accepted : {A : Type 0} (tables : A → Tables) (shape : A → Bool) (more : List (Refusal A)) (x : A)
+    → (shape x ≡ false → shapeBad (tables x) ≡ false)
+    → verdict ((record { number = 1; applies = shape } ∷ map (within tables) tableRefusals) ++ more) x ≡ 0
+    → programVerdict (tables x) ≡ 0
+unfolding programVerdict
+lent-accepted {A} tables shape more x s e = clear-verdict (shapeRefusal ∷ tableRefusals) (tables x) (s (clear .0), clear .1)
+  where
+    own : List (Refusal A)
+    own = record { number = 1; applies = shape } ∷ map (within tables) tableRefusals
+
+    clear : Clear own x
+    clear = verdict-clear own x (omega arith) (verdict-both own more x (omega arith) e .0)

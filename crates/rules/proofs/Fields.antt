@@ -1,0 +1,110 @@
+-- Number 2: each row's test bars what the row must be.
+-- Assumes nothing.
+use Prim.Native.Nat.{ℕ}
+use mathlib.Core.Logic.{_⊎_}
+use Rattle.theory.specs.Claim.{Says, Bars}
+use Rattle.theory.proofs.Bools.{says-or, says-as, says-lt, says-le, says-eq, bars-not, bars-as, _or_, _and_, says-implies, bars-lt, bars-le}
+use Rattle.theory.proofs.Search.{bars-any}
+use Rattle.theory.proofs.Order.{leZ-says}
+use Rattle.cells.proofs.Ints.{eqZ-says}
+use Rattle.cells.proofs.Readings.{missing-says}
+use Rattle.program.specs.Tables.{Tables, portKind, output, guardLow, guardHigh, modeCount, startMode}
+use Rattle.rules.specs.Fields.{inRange, InRange, portBad, taskBad, TaskFits, taskPortBad, TaskPortFits, alwaysFits, AlwaysFits, intervalFits, IntervalFits, driverBad, copyBad, CopyFits, modeBad, modePortBad, ModePortFits, invocationBad, InvocationFits, updateBad, UpdateFits, switchBad, SwitchFits, startBad, fieldsBad, Fields}
+
+-- the test of a range says that the number is in it
+pub range-says : (n limit : ℕ) → Says (inRange n limit) (InRange n limit)
+unfolding inRange
+range-says n limit = says-le 1 n and says-le n limit
+
+module _ (T : Tables) where
+  task-bars : (t : ℕ) → Bars (taskBad T t) (TaskFits T t)
+  unfolding taskBad
+  task-bars t =
+      bars-as (bars-not (says-lt _ _ and range-says _ _))
+      (λ (s, w). record { supplier = s; worst = w }) (λ f. (f .supplier, f .worst))
+
+  task-port-bars : (k : ℕ) → Bars (taskPortBad T k) (TaskPortFits T k)
+  unfolding taskPortBad
+  task-port-bars k =
+      bars-as (bars-not (says-lt _ _ and says-lt _ _)) (λ (t, p). record { task = t; port = p }) (λ f. (f .task, f .port))
+
+  always-says : (d : ℕ) → Says (alwaysFits T d) (AlwaysFits T d)
+  unfolding alwaysFits
+  always-says d =
+      says-as (says-eq _ _ and says-eq _ _ and eqZ-says _ _ and eqZ-says _ _)
+      (λ (((k, p), l), h). record { kind = k; port = p; low = l; high = h }) (λ f. (((f .kind, f .port), f .low), f .high))
+
+  interval-says : (d : ℕ) → Says (intervalFits T d) (IntervalFits T d)
+  unfolding intervalFits
+  interval-says d =
+      says-as (says-eq _ _ and says-lt _ _ and leZ-says (guardLow T d) (guardHigh T d) and says-implies (missing-says _) (missing-says _))
+      (λ (((k, p), o), m). record { kind = k; port = p; ordered = o; missing = m })
+      (λ f. (((f .kind, f .port), f .ordered), f .missing))
+
+  driver-bars : (d : ℕ) → Bars (driverBad T d) (AlwaysFits T d ⊎ IntervalFits T d)
+  unfolding driverBad
+  driver-bars d = bars-not (says-or (always-says d) (interval-says d))
+
+  copy-bars : (c : ℕ) → Bars (copyBad T c) (CopyFits T c)
+  unfolding copyBad
+  copy-bars c =
+      bars-as (bars-not (says-lt _ _ and says-lt _ _ and says-lt _ _))
+      (λ ((d, s), t). record { driver = d; source = s; destination = t }) (λ f. ((f .driver, f .source), f .destination))
+
+  mode-port-bars : (k : ℕ) → Bars (modePortBad T k) (ModePortFits T k)
+  unfolding modePortBad
+  mode-port-bars k =
+      bars-as (bars-not (says-lt _ _ and says-lt _ _)) (λ (m, p). record { mode = m; port = p }) (λ f. (f .mode, f .port))
+
+  invocation-bars : (i : ℕ) → Bars (invocationBad T i) (InvocationFits T i)
+  unfolding invocationBad
+  invocation-bars i =
+      bars-as (bars-not (says-lt _ _ and range-says _ _ and says-lt _ _ and says-lt _ _))
+      (λ (((m, f), t), d). record { mode = m; frequency = f; task = t; driver = d })
+      (λ f. (((f .mode, f .frequency), f .task), f .driver))
+
+  update-bars : (i : ℕ) → Bars (updateBad T i) (UpdateFits T i)
+  unfolding updateBad
+  update-bars i =
+      bars-as (bars-not (says-lt _ _ and range-says _ _ and says-lt _ _))
+      (λ ((m, f), d). record { mode = m; frequency = f; driver = d }) (λ f. ((f .mode, f .frequency), f .driver))
+
+  switch-bars : (i : ℕ) → Bars (switchBad T i) (SwitchFits T i)
+  unfolding switchBad
+  switch-bars i =
+      bars-as (bars-not (says-lt _ _ and range-says _ _ and says-lt _ _ and says-lt _ _))
+      (λ (((m, f), t), d). record { mode = m; frequency = f; target = t; driver = d })
+      (λ f. (((f .mode, f .frequency), f .target), f .driver))
+
+  -- number 2 bars fields and a start mode that are in range and name something
+  pub fields-bar : Bars (fieldsBad T) (Fields T)
+  unfolding fieldsBad portBad modeBad startBad
+  fields-bar =
+      bars-as
+      (bars-any _ _ (λ p. bars-lt output (portKind T p)) _
+      or bars-any _ _ task-bars _
+      or bars-any _ _ task-port-bars _
+      or bars-any _ _ driver-bars _
+      or bars-any _ _ copy-bars _
+      or bars-any _ _ (λ m. bars-not (range-says _ _)) _
+      or bars-any _ _ mode-port-bars _
+      or bars-any _ _ invocation-bars _
+      or bars-any _ _ update-bars _
+      or bars-any _ _ switch-bars _
+      or bars-le (modeCount T) (startMode T))
+      (λ ((((((((((p, t), tp), d), c), m), mp), i), u), w), s).
+      record {
+        ports = p;
+        tasks = t;
+        task-ports = tp;
+        drivers = d;
+        copies = c;
+        modes = m;
+        mode-ports = mp;
+        invocations = i;
+        updates = u;
+        switches = w;
+        start = s;
+      })
+      (λ f.
+      ((((((((((f .ports, f .tasks), f .task-ports), f .drivers), f .copies), f .modes), f .mode-ports), f .invocations), f .updates), f .switches), f .start))

@@ -1,0 +1,49 @@
+-- Numbers 9 and 10: the units of a mode, and task frequencies against switch frequencies.
+-- Assumes nothing: a frequency 0 has no multiple from 1 to the limit.
+use Prim.Native.Nat.{ℕ, zero, suc, _*_, _/_, _≤_, _<_, _∣_}
+use mathlib.Core.Path.{_≡_}
+use native.Mathlib.Nat.{div-mul-cancel, zero-mul}
+use native.Mathlib.Omega.{arith}
+use Rattle.theory.specs.Claim.{Bars}
+use Rattle.theory.proofs.Bools.{says-eq, bars-and, bars-as, _or_, bars-lt}
+use Rattle.theory.proofs.Search.{bars-any}
+use Rattle.cells.specs.Limits.{maxUnits}
+use Rattle.program.specs.Tables.{Tables, modeCount, modePeriod}
+use Rattle.program.specs.Units.{units}
+use Rattle.program.proofs.Units.{misses-bars, units-least, units-only}
+use Rattle.rules.specs.Fields.{Fields}
+use Rattle.rules.specs.Timing.{unitsWrong, unitsBad, UnitsFit, notWhole, wholeBad, Whole}
+
+module _ (T : Tables) where
+  -- number 9 bars units, in every mode, that are within the limit and divide the period
+  pub units-bar : Bars (unitsBad T) (UnitsFit T)
+  unfolding unitsBad unitsWrong
+  units-bar =
+      bars-any _ _
+      (λ m.
+      bars-as (bars-lt maxUnits (units T m) or misses-bars (modePeriod T m) (units T m))
+      (λ (l, d). record { count = units T m; is-least = units-least T m l; few = l; divides = d })
+      (λ u. let e = units-only T m (u .count) (u .is-least) (u .few) in (rw e (u .few), rw e (u .divides)))) _
+
+  -- so the units of a declared mode are within the limit
+  pub units-few : UnitsFit T → (m : ℕ) → m < modeCount T → units T m ≤ maxUnits
+  units-few w m l = let u = w m l in rw (units-only T m (u .count) (u .is-least) (u .few)) (u .few)
+
+  -- and divide its period
+  pub units-divide : UnitsFit T → (m : ℕ) → m < modeCount T → units T m ∣ modePeriod T m
+  units-divide w m l = let u = w m l in rw (units-only T m (u .count) (u .is-least) (u .few)) (u .divides)
+
+  -- so a unit of it has a tick
+  pub ticks-some : Fields T → UnitsFit T → (m : ℕ) → m < modeCount T → 1 ≤ modePeriod T m / units T m
+  ticks-some f w m l = go (modePeriod T m / units T m) (div-mul-cancel _ (units-divide w m l))
+    where
+      go : (n : ℕ) → n * units T m ≡ modePeriod T m → 1 ≤ n
+      go zero e = omega (arith, f .modes m l .0, zero-mul (units T m))
+      go (suc n) e = omega arith
+
+  -- number 10 bars task frequencies that are multiples of the switch frequencies of their mode
+  pub whole-bars : Bars (wholeBad T) (Whole T)
+  unfolding wholeBad notWhole
+  whole-bars =
+      bars-as (bars-any _ _ (λ s. bars-any _ _ (λ i. bars-and (says-eq _ _) (misses-bars _ _)) _) _)
+      (λ g s i h l. g s h i l) (λ g s h i l. g s i h l)

@@ -1,0 +1,158 @@
+-- Number 2: a field of the program's tables, or the start mode, is out of range or names nothing.
+-- A row's test says "bad"; beside it stands what a row must be. Assumes nothing.
+use Prim.Native.Nat.{ℕ, _≤_, _<_}
+use mathlib.Core.Path.{_≡_}
+use mathlib.Core.Bool.{Bool, not, _&&_, _||_}
+use mathlib.Core.Logic.{_⊎_}
+use lib.Dec.{eqb, ltb, leb}
+use lib.IntN.{ℤ, pos}
+use lib.Signed.{leZ}
+use Rattle.theory.specs.Search.{any}
+use Rattle.theory.specs.Order.{_≤Z_}
+use Rattle.cells.specs.Cell.{eqZ}
+use Rattle.cells.specs.Reading.{isMissing, noReading}
+use Rattle.cells.specs.Limits.{suppliers, maxWorst, maxPeriod, maxFrequency}
+use Rattle.program.specs.Tables.{Tables, portCount, portKind, output, taskCount, taskSupplier, taskWorst, taskPortCount, tpTask, tpPort, driverCount, guardKind, guardPort, guardLow, guardHigh, kindAlways, kindInterval, copyCount, copyDriver, copySource, copyDestination, modeCount, modePeriod, modePortCount, mpMode, mpPort, invocationCount, invMode, invFrequency, invTask, invDriver, updateCount, updMode, updFrequency, updDriver, switchCount, swMode, swFrequency, swTarget, swDriver, startMode}
+
+-- from 1 to the limit
+unfoldable pub inRange : ℕ → ℕ → Bool
+inRange n limit = leb 1 n && leb n limit
+
+abbrev pub InRange : ℕ → ℕ → Type 0
+InRange n limit = (1 ≤ n) × (n ≤ limit)
+
+-- ports: kind 0 to 3
+unfoldable pub portBad : Tables → ℕ → Bool
+portBad T p = ltb output (portKind T p)
+
+-- tasks: supplier 0..7, worst-case time 1..4,096
+unfoldable pub taskBad : Tables → ℕ → Bool
+taskBad T t = not (ltb (taskSupplier T t) suppliers && inRange (taskWorst T t) maxWorst)
+
+pub record TaskFits (T : Tables) (t : ℕ) : Type 0 where
+  pub supplier : taskSupplier T t < suppliers
+  pub worst : InRange (taskWorst T t) maxWorst
+
+-- task ports: a task, a port
+unfoldable pub taskPortBad : Tables → ℕ → Bool
+taskPortBad T k = not (ltb (tpTask T k) (taskCount T) && ltb (tpPort T k) (portCount T))
+
+pub record TaskPortFits (T : Tables) (k : ℕ) : Type 0 where
+  pub task : tpTask T k < taskCount T
+  pub port : tpPort T k < portCount T
+
+-- drivers: kind 0 has 0 in its other three fields; kind 1 has a port, low ≤ high, and low no reading only if high is too
+unfoldable pub alwaysFits : Tables → ℕ → Bool
+alwaysFits T d = eqb (guardKind T d) kindAlways && eqb (guardPort T d) 0 && eqZ (guardLow T d) (pos 0) && eqZ (guardHigh T d) (pos 0)
+
+unfoldable pub intervalFits : Tables → ℕ → Bool
+intervalFits T d =
+    eqb (guardKind T d) kindInterval
+    && ltb (guardPort T d) (portCount T)
+    && leZ (guardLow T d) (guardHigh T d)
+    && (not (isMissing (guardLow T d)) || isMissing (guardHigh T d))
+
+unfoldable pub driverBad : Tables → ℕ → Bool
+driverBad T d = not (alwaysFits T d || intervalFits T d)
+
+pub record AlwaysFits (T : Tables) (d : ℕ) : Type 0 where
+  pub kind : guardKind T d ≡ kindAlways
+  pub port : guardPort T d ≡ 0
+  pub low : guardLow T d ≡ pos 0
+  pub high : guardHigh T d ≡ pos 0
+
+pub record IntervalFits (T : Tables) (d : ℕ) : Type 0 where
+  pub kind : guardKind T d ≡ kindInterval
+  pub port : guardPort T d < portCount T
+  pub ordered : guardLow T d ≤Z guardHigh T d
+  pub missing : guardLow T d ≡ noReading → guardHigh T d ≡ noReading
+
+-- copies: a driver, a source, a destination
+unfoldable pub copyBad : Tables → ℕ → Bool
+copyBad T c = not (ltb (copyDriver T c) (driverCount T) && ltb (copySource T c) (portCount T) && ltb (copyDestination T c) (portCount T))
+
+pub record CopyFits (T : Tables) (c : ℕ) : Type 0 where
+  pub driver : copyDriver T c < driverCount T
+  pub source : copySource T c < portCount T
+  pub destination : copyDestination T c < portCount T
+
+-- modes: period 1..4,096
+unfoldable pub modeBad : Tables → ℕ → Bool
+modeBad T m = not (inRange (modePeriod T m) maxPeriod)
+
+-- mode ports: a mode, a port
+unfoldable pub modePortBad : Tables → ℕ → Bool
+modePortBad T k = not (ltb (mpMode T k) (modeCount T) && ltb (mpPort T k) (portCount T))
+
+pub record ModePortFits (T : Tables) (k : ℕ) : Type 0 where
+  pub mode : mpMode T k < modeCount T
+  pub port : mpPort T k < portCount T
+
+-- invocations: a mode, a frequency 1..64, a task, a driver
+unfoldable pub invocationBad : Tables → ℕ → Bool
+invocationBad T i =
+    not
+    (ltb (invMode T i) (modeCount T)
+    && inRange (invFrequency T i) maxFrequency
+    && ltb (invTask T i) (taskCount T)
+    && ltb (invDriver T i) (driverCount T))
+
+pub record InvocationFits (T : Tables) (i : ℕ) : Type 0 where
+  pub mode : invMode T i < modeCount T
+  pub frequency : InRange (invFrequency T i) maxFrequency
+  pub task : invTask T i < taskCount T
+  pub driver : invDriver T i < driverCount T
+
+-- updates: a mode, a frequency, a driver
+unfoldable pub updateBad : Tables → ℕ → Bool
+updateBad T i = not (ltb (updMode T i) (modeCount T) && inRange (updFrequency T i) maxFrequency && ltb (updDriver T i) (driverCount T))
+
+pub record UpdateFits (T : Tables) (i : ℕ) : Type 0 where
+  pub mode : updMode T i < modeCount T
+  pub frequency : InRange (updFrequency T i) maxFrequency
+  pub driver : updDriver T i < driverCount T
+
+-- switches: a mode, a frequency, a target mode, a driver
+unfoldable pub switchBad : Tables → ℕ → Bool
+switchBad T i =
+    not
+    (ltb (swMode T i) (modeCount T)
+    && inRange (swFrequency T i) maxFrequency
+    && ltb (swTarget T i) (modeCount T)
+    && ltb (swDriver T i) (driverCount T))
+
+pub record SwitchFits (T : Tables) (i : ℕ) : Type 0 where
+  pub mode : swMode T i < modeCount T
+  pub frequency : InRange (swFrequency T i) maxFrequency
+  pub target : swTarget T i < modeCount T
+  pub driver : swDriver T i < driverCount T
+
+unfoldable pub startBad : Tables → Bool
+startBad T = leb (modeCount T) (startMode T)
+
+unfoldable pub fieldsBad : Tables → Bool
+fieldsBad T =
+    any (portBad T) (portCount T)
+    || any (taskBad T) (taskCount T)
+    || any (taskPortBad T) (taskPortCount T)
+    || any (driverBad T) (driverCount T)
+    || any (copyBad T) (copyCount T)
+    || any (modeBad T) (modeCount T)
+    || any (modePortBad T) (modePortCount T)
+    || any (invocationBad T) (invocationCount T)
+    || any (updateBad T) (updateCount T)
+    || any (switchBad T) (switchCount T)
+    || startBad T
+
+pub record Fields (T : Tables) : Type 0 where
+  pub ports : (p : ℕ) → p < portCount T → portKind T p ≤ output
+  pub tasks : (t : ℕ) → t < taskCount T → TaskFits T t
+  pub task-ports : (k : ℕ) → k < taskPortCount T → TaskPortFits T k
+  pub drivers : (d : ℕ) → d < driverCount T → AlwaysFits T d ⊎ IntervalFits T d
+  pub copies : (c : ℕ) → c < copyCount T → CopyFits T c
+  pub modes : (m : ℕ) → m < modeCount T → InRange (modePeriod T m) maxPeriod
+  pub mode-ports : (k : ℕ) → k < modePortCount T → ModePortFits T k
+  pub invocations : (i : ℕ) → i < invocationCount T → InvocationFits T i
+  pub updates : (i : ℕ) → i < updateCount T → UpdateFits T i
+  pub switches : (i : ℕ) → i < switchCount T → SwitchFits T i
+  pub start : startMode T < modeCount T

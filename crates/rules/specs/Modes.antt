@@ -1,0 +1,111 @@
+-- Numbers 6, 7 and 8: invocations, updates and switches, each row with the ports of its driver and against the rows before it.
+-- The claims are those of 001, section 3.1, point 4 (a), (b), (c). Assumes nothing.
+use Prim.Native.Nat.{ℕ, _≤_, _<_}
+use mathlib.Core.Path.{_≡_}
+use mathlib.Core.Bool.{Bool, not, _&&_, _||_}
+use mathlib.Core.Logic.{_⊎_, _↔_}
+use lib.Dec.{eqb}
+use Rattle.theory.specs.Search.{any}
+use Rattle.program.specs.Tables.{Tables, sensor, actuator, input, output, taskPortCount, tpTask, tpPort, guardKind, guardPort, kindAlways, kindInterval, copyCount, copyDriver, copySource, copyDestination, modePortCount, mpMode, mpPort, invocationCount, invMode, invTask, invDriver, updateCount, updMode, updDriver, switchCount, swMode, swTarget, swDriver}
+use Rattle.program.specs.Guard.{always, guardOf, meet, Meet}
+use Rattle.program.specs.Sets.{isKind, isInput, isOutput, isModePort, isDestination, Sensor, Actuator, Input, Output, ModePort, Source, Destination}
+
+-- some output of task t has a property; some input; some port of mode m; some source of driver d; some destination
+unfoldable pub someOutput : Tables → (ℕ → Bool) → ℕ → Bool
+someOutput T bad t = any (λ k. let b = bad (tpPort T k) in eqb (tpTask T k) t && isKind T output (tpPort T k) && b) (taskPortCount T)
+
+unfoldable pub someInput : Tables → (ℕ → Bool) → ℕ → Bool
+someInput T bad t = any (λ k. let b = bad (tpPort T k) in eqb (tpTask T k) t && isKind T input (tpPort T k) && b) (taskPortCount T)
+
+unfoldable pub somePort : Tables → (ℕ → Bool) → ℕ → Bool
+somePort T bad m = any (λ k. let b = bad (mpPort T k) in eqb (mpMode T k) m && b) (modePortCount T)
+
+unfoldable pub someSource : Tables → (ℕ → Bool) → ℕ → Bool
+someSource T bad d =
+    any (λ c. let b = bad (copySource T c) in eqb (copyDriver T c) d && b) (copyCount T)
+    || (eqb (guardKind T d) kindInterval && bad (guardPort T d))
+
+unfoldable pub someDestination : Tables → (ℕ → Bool) → ℕ → Bool
+someDestination T bad d = any (λ c. let b = bad (copyDestination T c) in eqb (copyDriver T c) d && b) (copyCount T)
+
+-- a task driver or a mode driver reads only ports of the mode and sensors
+unfoldable pub unread : Tables → ℕ → ℕ → Bool
+unread T m p = not (isModePort T m p || isKind T sensor p)
+
+-- 6, invocation: an output of the task is no mode port; a source is neither mode port nor sensor; destinations are not exactly
+-- the task's inputs; guard not always; two rows in a mode have one task or share an output
+unfoldable pub invocationClash : Tables → ℕ → ℕ → Bool
+invocationClash T i j =
+    let shared = someOutput T (isOutput T (invTask T j)) (invTask T i) in
+    eqb (invMode T j) (invMode T i) && (eqb (invTask T j) (invTask T i) || shared)
+
+unfoldable pub invocationWrong : Tables → ℕ → Bool
+invocationWrong T i =
+    someOutput T (λ p. not (isModePort T (invMode T i) p)) (invTask T i)
+    || someSource T (unread T (invMode T i)) (invDriver T i)
+    || someDestination T (λ p. not (isInput T (invTask T i) p)) (invDriver T i)
+    || someInput T (λ p. not (isDestination T (invDriver T i) p)) (invTask T i)
+    || not (eqb (guardKind T (invDriver T i)) kindAlways)
+    || any (invocationClash T i) i
+
+unfoldable pub invocationsBad : Tables → Bool
+invocationsBad T = any (invocationWrong T) (invocationCount T)
+
+pub record Invokes (T : Tables) (i : ℕ) : Type 0 where
+  -- Out[t] ⊆ ModePorts[m]
+  pub outputs : (p : ℕ) → Output T (invTask T i) p → ModePort T (invMode T i) p
+  -- Src[d] ⊆ ModePorts[m] ∪ SensePorts
+  pub sources : (p : ℕ) → Source T (invDriver T i) p → ModePort T (invMode T i) p ⊎ Sensor T p
+  -- Dst[d] = In[t]
+  pub destinations : (p : ℕ) → Destination T (invDriver T i) p ↔ Input T (invTask T i) p
+  pub guard : guardKind T (invDriver T i) ≡ kindAlways
+
+pub record Invocations (T : Tables) : Type 0 where
+  pub each : (i : ℕ) → i < invocationCount T → Invokes T i
+  -- t ≠ t′, and Out[t] ∩ Out[t′] = ∅
+  pub tasks-apart : (i j : ℕ) → j < i → i < invocationCount T → invMode T j ≡ invMode T i → invTask T j ≡ invTask T i → ⊥
+  pub outputs-apart : (i j p : ℕ) → j < i → i < invocationCount T → invMode T j ≡ invMode T i → Output T (invTask T i) p → Output T (invTask T j) p → ⊥
+
+-- 7, update: a source is no mode port, a destination no actuator, or two rows in a mode share a destination
+unfoldable pub updateClash : Tables → ℕ → ℕ → Bool
+updateClash T i j =
+    let shared = someDestination T (isDestination T (updDriver T j)) (updDriver T i) in
+    eqb (updMode T j) (updMode T i) && shared
+
+unfoldable pub updateWrong : Tables → ℕ → Bool
+updateWrong T i =
+    someSource T (λ p. not (isModePort T (updMode T i) p)) (updDriver T i)
+    || someDestination T (λ p. not (isKind T actuator p)) (updDriver T i)
+    || any (updateClash T i) i
+
+unfoldable pub updatesBad : Tables → Bool
+updatesBad T = any (updateWrong T) (updateCount T)
+
+pub record Updates (T : Tables) : Type 0 where
+  -- Src[d] ⊆ ModePorts[m], Dst[d] ⊆ ActPorts
+  pub sources : (i p : ℕ) → i < updateCount T → Source T (updDriver T i) p → ModePort T (updMode T i) p
+  pub destinations : (i p : ℕ) → i < updateCount T → Destination T (updDriver T i) p → Actuator T p
+  -- Dst[d] ∩ Dst[d′] = ∅
+  pub apart : (i j p : ℕ) → j < i → i < updateCount T → updMode T j ≡ updMode T i → Destination T (updDriver T i) p → Destination T (updDriver T j) p → ⊥
+
+-- 8, switch: a source is neither a port of the old mode nor a sensor; destinations are not exactly the target's mode ports;
+-- two guards in a mode can hold for one valuation
+unfoldable pub switchClash : Tables → ℕ → ℕ → Bool
+switchClash T i j = eqb (swMode T j) (swMode T i) && meet (guardOf T (swDriver T j)) (guardOf T (swDriver T i))
+
+unfoldable pub switchWrong : Tables → ℕ → Bool
+switchWrong T i =
+    someSource T (unread T (swMode T i)) (swDriver T i)
+    || someDestination T (λ p. not (isModePort T (swTarget T i) p)) (swDriver T i)
+    || somePort T (λ p. not (isDestination T (swDriver T i) p)) (swTarget T i)
+    || any (switchClash T i) i
+
+unfoldable pub switchesBad : Tables → Bool
+switchesBad T = any (switchWrong T) (switchCount T)
+
+pub record Switches (T : Tables) : Type 0 where
+  -- Src[d] ⊆ ModePorts[m] ∪ SensePorts, Dst[d] = ModePorts[m′]
+  pub sources : (i p : ℕ) → i < switchCount T → Source T (swDriver T i) p → ModePort T (swMode T i) p ⊎ Sensor T p
+  pub destinations : (i p : ℕ) → i < switchCount T → Destination T (swDriver T i) p ↔ ModePort T (swTarget T i) p
+  -- for all valuations, g[d] or g[d′] is false
+  pub apart : (i j : ℕ) → j < i → i < switchCount T → swMode T j ≡ swMode T i → Meet (guardOf T (swDriver T j)) (guardOf T (swDriver T i)) → ⊥

@@ -1,0 +1,36 @@
+-- Numbers 9 and 10: units of a mode, and task frequencies against switch frequencies.
+-- Assumes nothing.
+use Prim.Native.Nat.{ℕ, _%_, _≤_, _<_, _∣_}
+use mathlib.Core.Path.{_≡_}
+use mathlib.Core.Bool.{Bool, _&&_, _||_}
+use lib.Dec.{eqb, ltb}
+use Rattle.theory.specs.Search.{any}
+use Rattle.cells.specs.Limits.{maxUnits}
+use Rattle.program.specs.Tables.{Tables, modeCount, modePeriod, invocationCount, invMode, invFrequency, switchCount, swMode, swFrequency}
+use Rattle.program.specs.Units.{misses, units, Units}
+
+-- 9: the least common multiple of a mode's frequencies exceeds 64 or does not divide its period
+unfoldable pub unitsWrong : Tables → ℕ → Bool
+unitsWrong T m = ltb maxUnits (units T m) || misses (modePeriod T m) (units T m)
+
+unfoldable pub unitsBad : Tables → Bool
+unitsBad T = any (unitsWrong T) (modeCount T)
+
+pub record ModeUnits (T : Tables) (m : ℕ) : Type 0 where
+  pub count : ℕ
+  pub is-least : Units T m count
+  pub few : count ≤ maxUnits
+  pub divides : count ∣ modePeriod T m
+
+abbrev pub UnitsFit : Tables → Type 0
+UnitsFit T = (m : ℕ) → m < modeCount T → ModeUnits T m
+
+-- 10: in a mode, task frequency divided by switch frequency is not whole
+unfoldable pub notWhole : Tables → ℕ → ℕ → Bool
+notWhole T s i = eqb (invMode T i) (swMode T s) && misses (invFrequency T i) (swFrequency T s)
+
+unfoldable pub wholeBad : Tables → Bool
+wholeBad T = any (λ s. any (notWhole T s) (invocationCount T)) (switchCount T)
+
+abbrev pub Whole : Tables → Type 0
+Whole T = (s i : ℕ) → s < switchCount T → i < invocationCount T → invMode T i ≡ swMode T s → swFrequency T s ∣ invFrequency T i

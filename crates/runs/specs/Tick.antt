@@ -1,0 +1,71 @@
+-- One tick of one supplier's block, after 003. A row is a dispatch of a job or an idle, with a timeout counted from the
+-- block's start; a job is a number, its remaining time stands in a list. Knows no program. Assumes nothing.
+use Prim.Native.Nat.{ℕ, zero, suc, _+_, _-_}
+use mathlib.Core.Bool.{Bool, true, false, _||_}
+use mathlib.Core.List.{List, [], _∷_}
+use lib.Dec.{leb}
+use lib.ListN.{getD, set, drop}
+
+pub data Kind : Type 0 where
+  dispatch idle : Kind
+
+pub record Row : Type 0 where
+  pub kind : Kind
+  pub job : ℕ
+  pub timeout : ℕ
+
+-- the remaining time of a job
+abbrev pub leftOf : List ℕ → ℕ → ℕ
+leftOf left j = getD left j 0
+
+-- a dispatch whose job is not running has nothing to do; an idle always waits
+abbrev pub done : Kind → ℕ → Bool
+done dispatch n = leb n 0
+done idle n = false
+
+-- "skipped if the task is not running or the timeout is reached"; "idle waits for its timeout"
+abbrev pub skipped : ℕ → List ℕ → Row → Bool
+skipped elapsed left x = leb (x .timeout) elapsed || done (x .kind) (leftOf left (x .job))
+
+-- how many rows at the front are passed, on the values at the tick's start
+abbrev pub passed : List Row → ℕ → List ℕ → ℕ
+passed [] elapsed left = 0
+passed (x ∷ xs) elapsed left = elim (skipped elapsed left x) [ true ↦ suc (passed xs elapsed left) | false ↦ 0 ]
+
+-- what runs in a tick
+pub data Act : Type 0 where
+  rest : Act
+  run : ℕ → Act
+
+abbrev pub does : Kind → ℕ → Act
+does dispatch j = run j
+does idle j = rest
+
+-- "after the last row nothing runs"
+abbrev pub act : List Row → Act
+act [] = rest
+act (x ∷ xs) = does (x .kind) (x .job)
+
+abbrev pub runs : Act → Bool
+runs rest = false
+runs (run j) = true
+
+-- the remaining times after a tick of that job
+abbrev pub after : Act → List ℕ → List ℕ
+after rest left = left
+after (run j) left = set left j (leftOf left j - 1)
+
+-- a supplier within a unit: rows of its block passed, and the remaining times
+pub record Place : Type 0 where
+  pub position : ℕ
+  pub left : List ℕ
+
+-- "rows are passed only at a tick's start"
+abbrev pub moved : List Row → ℕ → Place → ℕ
+moved block elapsed s = s .position + passed (drop (s .position) block) elapsed (s .left)
+
+abbrev pub doing : List Row → ℕ → Place → Act
+doing block elapsed s = act (drop (moved block elapsed s) block)
+
+abbrev pub tick : List Row → ℕ → Place → Place
+tick block elapsed s = record { position = moved block elapsed s; left = after (doing block elapsed s) (s .left) }

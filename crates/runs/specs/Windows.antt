@@ -1,0 +1,52 @@
+-- The windows table: supplier, mode, from, to. A window is half open: tick `from` is in it, tick `to` is not.
+-- Assumes nothing.
+use Prim.Native.Nat.{ℕ, _≤_, _<_}
+use mathlib.Core.Path.{_≡_}
+use mathlib.Core.Bool.{Bool, _&&_}
+use mathlib.Core.List.{List}
+use lib.Dec.{eqb, ltb, leb}
+use lib.IntN.{ℤ}
+use Rattle.theory.specs.Search.{any}
+use Rattle.cells.specs.Cell.{rowsIn, fieldAt, namedAt}
+
+abbrev pub windowWidth : ℕ
+windowWidth = 4
+
+abbrev pub windowCount : List ℤ → ℕ
+windowCount W = rowsIn windowWidth W
+
+abbrev pub winSupplier : List ℤ → ℕ → ℕ
+winSupplier W = fieldAt windowWidth 0 W
+
+abbrev pub winMode : List ℤ → ℕ → ℕ
+winMode W = namedAt windowWidth 1 W
+
+abbrev pub winFrom : List ℤ → ℕ → ℕ
+winFrom W = fieldAt windowWidth 2 W
+
+abbrev pub winTo : List ℤ → ℕ → ℕ
+winTo W = fieldAt windowWidth 3 W
+
+-- row i is a window of supplier s in mode m that has tick t
+unfoldable pub windowHas : List ℤ → ℕ → ℕ → ℕ → ℕ → Bool
+windowHas W s m t i = eqb (winSupplier W i) s && eqb (winMode W i) m && leb (winFrom W i) t && ltb t (winTo W i)
+
+-- tick t of the round of mode m lies in a window of supplier s
+unfoldable pub inWindow : List ℤ → ℕ → ℕ → ℕ → Bool
+inWindow W s m t = any (windowHas W s m t) (windowCount W)
+
+-- rows i and j are of one mode and share a tick (no window is empty)
+unfoldable pub shareTick : List ℤ → ℕ → ℕ → Bool
+shareTick W i j = eqb (winMode W j) (winMode W i) && ltb (winFrom W i) (winTo W j) && ltb (winFrom W j) (winTo W i)
+
+-- The same as claims.
+pub record Has (W : List ℤ) (i m t : ℕ) : Type 0 where
+  pub of-mode : winMode W i ≡ m
+  pub begun : winFrom W i ≤ t
+  pub not-over : t < winTo W i
+
+pub record InWindow (W : List ℤ) (s m t : ℕ) : Type 0 where
+  pub row : ℕ
+  pub in-table : row < windowCount W
+  pub owner : winSupplier W row ≡ s
+  pub has : Has W row m t

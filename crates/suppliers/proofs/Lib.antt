@@ -1,0 +1,6 @@
+-- Numbers 12 and 13 are exact: each test bars its claim. The answer over the modes is that of the first whose run breaks.
+pub mod Windows
+pub mod Schedule
+pub mod Modes
+pub mod Accepted
+pub mod Tasks

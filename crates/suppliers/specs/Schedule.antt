@@ -1,0 +1,91 @@
+-- Number 13, schedule: a field out of range; not sorted by supplier, then address; the address holds no `future` of the
+-- compiled code; a timeout outside 0..that delay; a dispatch of another supplier's task; in one supplier's part, a row of
+-- another; over 256 rows of one supplier in the joined schedule. Assumes nothing.
+use Prim.Native.Nat.{ℕ, _-_, _≤_, _<_}
+use mathlib.Core.Path.{_≡_}
+use mathlib.Core.Bool.{Bool, true, false, not, _&&_, _||_}
+use mathlib.Core.List.{List}
+use mathlib.Core.Option.{Option, none, some}
+use mathlib.Core.Logic.{_⊎_}
+use lib.Dec.{eqb, ltb, leb}
+use lib.IntN.{ℤ}
+use lib.ListN.{length}
+use Rattle.theory.specs.Search.{any}
+use Rattle.theory.specs.Lists.{those}
+use Rattle.cells.specs.Limits.{suppliers, maxPart}
+use Rattle.program.specs.Tables.{Tables, taskCount, taskSupplier}
+use Rattle.code.specs.Op.{Op}
+use Rattle.code.specs.Compile.{listingOf, delayAt}
+use Rattle.runs.specs.Schedule.{scheduleCount, rowSupplier, rowAddress, rowKind, rowTask, rowTimeout, kindDispatch, kindIdle}
+
+-- the timeout is within the delay, if there is one
+abbrev pub inDelay : Option ℕ → ℕ → Bool
+inDelay none timeout = false
+inDelay (some d) timeout = leb timeout d
+
+-- a dispatch of a task of the row's supplier, or an idle row, which has task 0
+unfoldable pub dispatchFits : Tables → List ℤ → ℕ → Bool
+dispatchFits T S i =
+    eqb (rowKind S i) kindDispatch && ltb (rowTask S i) (taskCount T) && eqb (taskSupplier T (rowTask S i)) (rowSupplier S i)
+
+unfoldable pub idleFits : List ℤ → ℕ → Bool
+idleFits S i = eqb (rowKind S i) kindIdle && eqb (rowTask S i) 0
+
+-- row i comes before row j, by supplier, then address
+unfoldable pub precedes : List ℤ → ℕ → ℕ → Bool
+precedes S i j = ltb (rowSupplier S i) (rowSupplier S j) || (eqb (rowSupplier S i) (rowSupplier S j) && ltb (rowAddress S i) (rowAddress S j))
+
+-- row i is wrong by itself, or comes before the row above it (row 0 - 1 is row 0)
+unfoldable pub rowWrong : Tables → List Op → List ℤ → ℕ → Bool
+rowWrong T code S i =
+    not
+    (ltb (rowSupplier S i) suppliers
+    && (dispatchFits T S i || idleFits S i)
+    && inDelay (delayAt code (rowAddress S i)) (rowTimeout S i))
+    || precedes S i (i - 1)
+
+unfoldable pub rowsBad : Tables → List ℤ → Bool
+rowsBad T S = let code = listingOf T in any (rowWrong T code S) (scheduleCount S)
+
+-- one supplier's part: the supplier is 0..7, and no row is of another
+unfoldable pub partBad : Tables → List ℤ → ℕ → Bool
+partBad T S s = rowsBad T S || any (λ i. not (eqb (rowSupplier S i) s)) (scheduleCount S) || leb suppliers s
+
+-- the joined schedule: at most 256 rows of one supplier
+unfoldable pub rowsOf : List ℤ → ℕ → ℕ
+rowsOf S s = length (those (λ i. eqb (rowSupplier S i) s) (λ i. i) (scheduleCount S) 0)
+
+unfoldable pub joinedBad : Tables → List ℤ → Bool
+joinedBad T S = rowsBad T S || any (λ s. ltb maxPart (rowsOf S s)) suppliers
+
+-- The same as claims.
+pub record Dispatches (T : Tables) (S : List ℤ) (i : ℕ) : Type 0 where
+  pub kind : rowKind S i ≡ kindDispatch
+  pub task : rowTask S i < taskCount T
+  pub own : taskSupplier T (rowTask S i) ≡ rowSupplier S i
+
+pub record Idles (S : List ℤ) (i : ℕ) : Type 0 where
+  pub kind : rowKind S i ≡ kindIdle
+  pub task : rowTask S i ≡ 0
+
+pub record RowFits (T : Tables) (S : List ℤ) (i : ℕ) : Type 0 where
+  pub supplier : rowSupplier S i < suppliers
+  pub action : Dispatches T S i ⊎ Idles S i
+  -- the address holds a `future` of the compiled code, and the timeout is 0..its delay
+  pub delay : ℕ
+  pub holds-future : delayAt (listingOf T) (rowAddress S i) ≡ some delay
+  pub timeout : rowTimeout S i ≤ delay
+
+pub record Rows (T : Tables) (S : List ℤ) : Type 0 where
+  pub each : (i : ℕ) → i < scheduleCount S → RowFits T S i
+  pub by-supplier : (j i : ℕ) → j < i → i < scheduleCount S → rowSupplier S j ≤ rowSupplier S i
+  pub by-address : (j i : ℕ) → j < i → i < scheduleCount S → rowSupplier S j ≡ rowSupplier S i → rowAddress S j ≤ rowAddress S i
+
+pub record Part (T : Tables) (S : List ℤ) (s : ℕ) : Type 0 where
+  pub rows : Rows T S
+  pub own : (i : ℕ) → i < scheduleCount S → rowSupplier S i ≡ s
+  pub supplier : s < suppliers
+
+pub record Joined (T : Tables) (S : List ℤ) : Type 0 where
+  pub rows : Rows T S
+  pub few : (s : ℕ) → s < suppliers → rowsOf S s ≤ maxPart

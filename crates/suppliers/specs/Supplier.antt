@@ -1,0 +1,92 @@
+-- Numbers 14 and 15, and the verdict on a supplier's schedule code: judged from unit 0 of each mode, nothing running, with
+-- all worst-case times; the place is the lowest mode, then the lowest tick. Assumes nothing.
+use Prim.Native.Nat.{ℕ, zero, suc}
+use mathlib.Core.Bool.{Bool, _||_}
+use mathlib.Core.List.{List, [], _∷_, _++_, map}
+use lib.Dec.{eqb}
+use lib.IntN.{ℤ}
+use lib.ListN.{length, replicate}
+use Rattle.theory.specs.Lists.{keep}
+use Rattle.theory.specs.Verdict.{Refusal, within, verdict, Rule, holding}
+use Rattle.cells.specs.Cell.{indexOf}
+use Rattle.cells.specs.Limits.{maxTasks, maxWindows, maxPart}
+use Rattle.program.specs.Tables.{Tables}
+use Rattle.program.specs.Program.{Program, programOf, task, mode, ticksOf, nextUnit, dueTasks}
+use Rattle.rules.specs.Shape.{badSlice, shapeBad, WholeRows, Shaped}
+use Rattle.rules.specs.Verdict.{tableRefusals, tableRules}
+use Rattle.code.specs.Listing.{futureAddress}
+use Rattle.code.specs.Compile.{longRefusal, longRule}
+use Rattle.runs.specs.Windows.{windowWidth, inWindow}
+use Rattle.runs.specs.Schedule.{scheduleWidth, blockOf}
+use Rattle.runs.specs.Round.{Course, Break, none, outside, late, worstBreak}
+use Rattle.suppliers.specs.Windows.{Windowed, windowsBad, Windows}
+use Rattle.suppliers.specs.Schedule.{partBad, Part}
+use Rattle.suppliers.specs.declared.Answer.{Answer}
+
+-- what a supplier's verdict is lent: its part of the schedule, and its number as it is given
+pub record Asked : Type 0 where
+  pub tables : Tables
+  pub windows : List ℤ
+  pub part : List ℤ
+  pub supplier : ℤ
+
+abbrev pub supplierOf : Asked → ℕ
+supplierOf L = indexOf (L .supplier)
+
+-- the tasks of supplier s among these
+abbrev pub ownTasks : Program → ℕ → List ℕ → List ℕ
+ownTasks P s ts = keep (λ t. eqb (task P t .supplier) s) ts
+
+-- what supplier s does in mode m with schedule S
+abbrev pub course : Program → List ℤ → List ℤ → ℕ → ℕ → Course
+course P W S s m = record {
+  ticks = ticksOf (mode P m);
+  units = mode P m .units;
+  block = λ k. blockOf S s (futureAddress P m k);
+  released = λ k. ownTasks P s (dueTasks (mode P m) k);
+  ending = λ k. ownTasks P s (dueTasks (mode P m) (nextUnit (mode P m) k));
+  worst = λ t. task P t .worst;
+  window = inWindow W s m;
+}
+
+-- nothing is running
+abbrev pub nothing : List ℕ
+nothing = replicate maxTasks 0
+
+abbrev pub courseOf : Asked → ℕ → Course
+courseOf L m = course (programOf (L .tables)) (L .windows) (L .part) (supplierOf L) m
+
+-- of n modes from m on, the first whose run breaks
+abbrev pub answerFrom : (ℕ → Break) → ℕ → ℕ → Answer
+answerFrom breaks zero m = record { number = 0; mode = 0; tick = 0 }
+answerFrom breaks (suc n) m = elim (breaks m) [
+  | none ↦ answerFrom breaks n (suc m)
+  | outside t ↦ record { number = 14; mode = m; tick = t }
+  | late t ↦ record { number = 15; mode = m; tick = t }
+]
+
+abbrev pub judged : Asked → Answer
+judged L = answerFrom (λ m. worstBreak (courseOf L m) nothing) (length (programOf (L .tables) .modes)) 0
+
+-- 1 to 13
+unfoldable pub partVerdict : Asked → ℕ
+partVerdict L =
+    verdict
+    (record { number = 1; applies = λ L. shapeBad (L .tables) || badSlice windowWidth maxWindows (L .windows) || badSlice scheduleWidth maxPart (L .part) }
+    ∷ (map (within (λ (L : Asked). L .tables)) (tableRefusals ++ (longRefusal ∷ []))
+    ++ (record { number = 12; applies = λ L. windowsBad (record { tables = L .tables; windows = L .windows }) }
+    ∷ record { number = 13; applies = λ L. partBad (L .tables) (L .part) (supplierOf L) }
+    ∷ [])))
+    L
+
+abbrev pub partRules : List (Rule Asked)
+partRules =
+    record { number = 1; holds = λ L. Shaped (L .tables) × WholeRows windowWidth maxWindows (L .windows) × WholeRows scheduleWidth maxPart (L .part) }
+    ∷ (map (holding (λ (L : Asked). L .tables)) (tableRules ++ (longRule ∷ []))
+    ++ (record { number = 12; holds = λ L. Windows (record { tables = L .tables; windows = L .windows }) }
+    ∷ record { number = 13; holds = λ L. Part (L .tables) (L .part) (supplierOf L) }
+    ∷ []))
+
+-- the verdict on a supplier's schedule code
+unfoldable pub supplierVerdict : Asked → Answer
+supplierVerdict L = elim (partVerdict L) [ zero ↦ judged L | suc n ↦ record { number = suc n; mode = 0; tick = 0 } ]

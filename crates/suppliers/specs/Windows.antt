@@ -1,0 +1,57 @@
+-- Number 12, windows: a field out of range, not 0 ≤ from < to ≤ period, or two rows of one mode share a tick, whoever owns
+-- them. The windows verdict. Assumes nothing.
+use Prim.Native.Nat.{ℕ, _≤_, _<_}
+use mathlib.Core.Bool.{Bool, not, _&&_, _||_}
+use mathlib.Core.List.{List, [], _∷_, _++_, map}
+use lib.Dec.{ltb, leb}
+use lib.IntN.{ℤ}
+use Rattle.theory.specs.Search.{any}
+use Rattle.theory.specs.Verdict.{Refusal, within, verdict, Rule, holding}
+use Rattle.cells.specs.Limits.{suppliers, maxWindows}
+use Rattle.program.specs.Tables.{Tables, modeCount, modePeriod}
+use Rattle.rules.specs.Shape.{badSlice, shapeBad, WholeRows, Shaped}
+use Rattle.rules.specs.Verdict.{tableRefusals, tableRules}
+use Rattle.code.specs.Compile.{longRefusal, longRule}
+use Rattle.runs.specs.Windows.{windowWidth, windowCount, winSupplier, winMode, winFrom, winTo, shareTick, Has}
+
+-- the tables and the windows, as they are lent
+pub record Windowed : Type 0 where
+  pub tables : Tables
+  pub windows : List ℤ
+
+unfoldable pub windowWrong : Tables → List ℤ → ℕ → Bool
+windowWrong T W i =
+    not
+    (ltb (winSupplier W i) suppliers
+    && ltb (winMode W i) (modeCount T)
+    && ltb (winFrom W i) (winTo W i)
+    && leb (winTo W i) (modePeriod T (winMode W i)))
+    || any (shareTick W i) i
+
+unfoldable pub windowsBad : Windowed → Bool
+windowsBad L = any (windowWrong (L .tables) (L .windows)) (windowCount (L .windows))
+
+pub record WindowFits (T : Tables) (W : List ℤ) (i : ℕ) : Type 0 where
+  pub supplier : winSupplier W i < suppliers
+  pub mode : winMode W i < modeCount T
+  pub some-tick : winFrom W i < winTo W i
+  pub in-period : winTo W i ≤ modePeriod T (winMode W i)
+
+pub record Windows (L : Windowed) : Type 0 where
+  pub each : (i : ℕ) → i < windowCount (L .windows) → WindowFits (L .tables) (L .windows) i
+  pub apart : (i j m t : ℕ) → j < i → i < windowCount (L .windows) → Has (L .windows) i m t → Has (L .windows) j m t → ⊥
+
+-- the windows verdict: 1 to 12
+unfoldable pub windowsVerdict : Windowed → ℕ
+windowsVerdict L =
+    verdict
+    (record { number = 1; applies = λ L. shapeBad (L .tables) || badSlice windowWidth maxWindows (L .windows) }
+    ∷ (map (within (λ (L : Windowed). L .tables)) (tableRefusals ++ (longRefusal ∷ []))
+    ++ (record { number = 12; applies = windowsBad } ∷ [])))
+    L
+
+abbrev pub windowsRules : List (Rule Windowed)
+windowsRules =
+    record { number = 1; holds = λ L. Shaped (L .tables) × WholeRows windowWidth maxWindows (L .windows) }
+    ∷ (map (holding (λ (L : Windowed). L .tables)) (tableRules ++ (longRule ∷ []))
+    ++ (record { number = 12; holds = Windows } ∷ []))

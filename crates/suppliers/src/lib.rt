@@ -1,0 +1,8 @@
+// Windows and a supplier's schedule code: numbers 12 to 15.
+
+// The answer on a supplier's code: the number, and for 14 and 15 the mode and the tick in the round (0 and 0 otherwise).
+pub struct Answer {
+    pub number: usize,
+    pub mode: usize,
+    pub tick: usize,
+}

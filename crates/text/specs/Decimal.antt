@@ -1,0 +1,55 @@
+-- Numbers as text: decimal digits in ASCII. A text is a list of bytes.
+-- Assumes nothing.
+use Prim.Native.Nat.{ℕ, zero, suc, _+_, _-_, _*_, _/_, _%_}
+use mathlib.Core.Bool.{Bool, true, false, _&&_}
+use mathlib.Core.List.{List, [], _∷_, _++_}
+use mathlib.Core.Option.{Option, none, some}
+use lib.Dec.{eqb, ltb, leb}
+use lib.IntN.{ℤ, pos, negsuc}
+
+abbrev pub digitZero : ℕ
+digitZero = 48
+
+abbrev pub minus : ℕ
+minus = 45
+
+abbrev pub space : ℕ
+space = 32
+
+abbrev pub newline : ℕ
+newline = 10
+
+-- the digits of n without leading zeros, in front of a text; a number of 32 bits has at most ten
+abbrev pub digitsBefore : ℕ → ℕ → List ℕ → List ℕ
+digitsBefore zero n text = text
+digitsBefore (suc most) n text =
+    let here = (digitZero + n % 10) ∷ text in
+    elim (ltb n 10) [ true ↦ here | false ↦ digitsBefore most (n / 10) here ]
+
+abbrev pub decimal : ℕ → List ℕ
+decimal n = digitsBefore 10 n []
+
+-- the value of digits that follow those of n; none where a byte is no digit
+abbrev pub valueAfter : ℕ → List ℕ → Option ℕ
+valueAfter n [] = some n
+valueAfter n (b ∷ bs) = elim (leb digitZero b && ltb b (digitZero + 10)) [ true ↦ valueAfter (n * 10 + (b - digitZero)) bs | false ↦ none ]
+
+-- digits, at least one
+abbrev pub magnitude : List ℕ → Option ℕ
+magnitude [] = none
+magnitude (b ∷ bs) = valueAfter 0 (b ∷ bs)
+
+-- a number of 32 bits, below zero or not
+abbrev pub notNegative : Option ℕ → Option ℤ
+notNegative none = none
+notNegative (some n) = elim (leb n 2147483647) [ true ↦ some (pos n) | false ↦ none ]
+
+abbrev pub negative : Option ℕ → Option ℤ
+negative none = none
+negative (some zero) = some (pos 0)
+negative (some (suc n)) = elim (leb n 2147483647) [ true ↦ some (negsuc n) | false ↦ none ]
+
+-- "-?[0-9]+", with a value of 32 bits; leading zeros and -0 are taken
+abbrev pub number : List ℕ → Option ℤ
+number [] = none
+number (b ∷ bs) = elim (eqb b minus) [ true ↦ negative (magnitude bs) | false ↦ notNegative (magnitude (b ∷ bs)) ]

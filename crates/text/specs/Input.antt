@@ -1,0 +1,93 @@
+-- The text that the shipped program reads: a number a line, the start mode, then for each table from ports to switches its row
+-- count and rows. It is judged from the front: a count outside 0..limit decides at once. Assumes nothing.
+use Prim.Native.Nat.{ℕ, zero, suc, _*_}
+use mathlib.Core.Bool.{Bool, true, false, not}
+use mathlib.Core.List.{List, [], _∷_, _++_}
+use mathlib.Core.Option.{Option, none, some}
+use lib.Dec.{eqb, leb}
+use lib.IntN.{ℤ, pos, negsuc}
+use lib.ListN.{getD}
+use Rattle.cells.specs.Limits.{maxPorts, maxTasks, maxTaskPorts, maxDrivers, maxCopies, maxModes, maxModePorts, maxInvocations, maxUpdates, maxSwitches}
+use Rattle.program.specs.Tables.{Tables, tables, portWidth, taskWidth, taskPortWidth, driverWidth, copyWidth, modeWidth, modePortWidth, invocationWidth, updateWidth, switchWidth}
+use Rattle.text.specs.Decimal.{newline, number}
+
+-- a byte in front of the lines of a text
+abbrev pub before : ℕ → List (List ℕ) → List (List ℕ)
+before b [] = (b ∷ []) ∷ []
+before b (l ∷ ls) = (b ∷ l) ∷ ls
+
+-- its lines; the last line end may be missing
+abbrev pub lines : List ℕ → List (List ℕ)
+lines [] = []
+lines (b ∷ bs) = elim (eqb b newline) [ true ↦ [] ∷ lines bs | false ↦ before b (lines bs) ]
+
+-- each line as a number, none where it is no number
+abbrev pub numbers : List (List ℕ) → List (Option ℤ)
+numbers [] = []
+numbers (l ∷ ls) = number l ∷ numbers ls
+
+-- what reading comes to: the text is bad, a count is out of its limit, or these numbers, and what is left to read
+pub data Read (A : Type 0) : Type 0 where
+  bad : Read A
+  tooMany : Read A
+  got : A → List (Option ℤ) → Read A
+
+abbrev pub then : {A B : Type 0} → Read A → (A → List (Option ℤ) → Read B) → Read B
+then bad f = bad
+then tooMany f = tooMany
+then (got a rest) f = f a rest
+
+-- one number; n numbers, after those that were read
+abbrev pub one : List (Option ℤ) → Read ℤ
+one [] = bad
+one (none ∷ rest) = bad
+one (some z ∷ rest) = got z rest
+
+abbrev pub several : ℕ → List (Option ℤ) → Read (List ℤ)
+several zero rest = got [] rest
+several (suc n) rest = then (one rest) (λ z more. then (several n more) (λ zs last. got (z ∷ zs) last))
+
+-- a table: its row count, then its rows
+abbrev pub rowsOf : ℕ → ℕ → ℤ → List (Option ℤ) → Read (List ℤ)
+rowsOf width limit (negsuc n) rest = tooMany
+rowsOf width limit (pos n) rest = elim (leb n limit) [ true ↦ several (n * width) rest | false ↦ tooMany ]
+
+abbrev pub table : ℕ → ℕ → List (Option ℤ) → Read (List ℤ)
+table width limit rest = then (one rest) (rowsOf width limit)
+
+-- tables one after the other, by width and limit
+pub record Shape : Type 0 where
+  pub width : ℕ
+  pub limit : ℕ
+
+abbrev pub allOf : List Shape → List (Option ℤ) → Read (List (List ℤ))
+allOf [] rest = got [] rest
+allOf (s ∷ ss) rest = then (table (s .width) (s .limit) rest) (λ t more. then (allOf ss more) (λ ts last. got (t ∷ ts) last))
+
+abbrev pub shapes : List Shape
+shapes =
+    record { width = portWidth; limit = maxPorts }
+    ∷ record { width = taskWidth; limit = maxTasks }
+    ∷ record { width = taskPortWidth; limit = maxTaskPorts }
+    ∷ record { width = driverWidth; limit = maxDrivers }
+    ∷ record { width = copyWidth; limit = maxCopies }
+    ∷ record { width = modeWidth; limit = maxModes }
+    ∷ record { width = modePortWidth; limit = maxModePorts }
+    ∷ record { width = invocationWidth; limit = maxInvocations }
+    ∷ record { width = updateWidth; limit = maxUpdates }
+    ∷ record { width = switchWidth; limit = maxSwitches }
+    ∷ []
+
+-- the ten tables that were read, by their place
+abbrev pub placed : ℤ → List (List ℤ) → Tables
+placed start ts =
+    tables (getD ts 0 []) (getD ts 1 []) (getD ts 2 []) (getD ts 3 []) (getD ts 4 []) (getD ts 5 []) (getD ts 6 []) (getD ts 7 [])
+    (getD ts 8 []) (getD ts 9 []) start
+
+-- nothing may follow the last row
+abbrev pub ended : Tables → List (Option ℤ) → Read Tables
+ended T [] = got T []
+ended T (z ∷ rest) = bad
+
+abbrev pub program : List ℕ → Read Tables
+program text = then (one (numbers (lines text))) (λ start rest. then (allOf shapes rest) (λ ts last. ended (placed start ts) last))

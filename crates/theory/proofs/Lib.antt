@@ -1,0 +1,9 @@
+-- The laws of what specs/ defines: how tests meet claims, what a search finds, what lists and assignments hold, which number is the first.
+pub mod Bools
+pub mod Search
+pub mod Lists
+pub mod Members
+pub mod Puts
+pub mod Due
+pub mod Verdict
+pub mod Order

@@ -1,0 +1,158 @@
+-- The laws of sums and pieces over the numbers below a bound, and of rows that pass a test.
+-- Assumes nothing.
+use Prim.Native.Nat.{ℕ, zero, suc, _+_, _*_, _≤_, _<_}
+use mathlib.Core.Path.{_≡_, refl, ap, sym, _∙_}
+use mathlib.Core.Bool.{Bool, true, false}
+use mathlib.Core.List.{List, [], _∷_, _++_, map}
+use native.Mathlib.Nat.{add-zero, zero-add, add-suc, suc-mul, zero-mul}
+use native.Mathlib.Omega.{arith}
+use native.Mathlib.Decide.{decLt}
+use lib.ListN.{length, getD, length-append}
+use Rattle.theory.specs.Lists.{those, each, keep, Every, cat, sum}
+
+-- a test that passes counts one
+abbrev pub bit : Bool → ℕ
+bit true = 1
+bit false = 0
+
+-- sums of equal numbers are equal
+pub sum-same : (g h : ℕ → ℕ) (n : ℕ) → ((k : ℕ) → k < n → g k ≡ h k) → sum g n ≡ sum h n
+sum-same g h zero e = refl
+sum-same g h (suc n) e = omega (arith, sum-same g h n (λ k l. e k (omega arith)), e n (omega arith))
+
+-- the sum of sums
+pub sum-add : (g h : ℕ → ℕ) (n : ℕ) → sum (λ k. g k + h k) n ≡ sum g n + sum h n
+sum-add g h zero = refl
+sum-add g h (suc n) = omega (arith, sum-add g h n)
+
+-- n times the same number
+pub sum-const : (c n : ℕ) → sum (λ k. c) n ≡ n * c
+sum-const c zero = sym (zero-mul c)
+sum-const c (suc n) = omega (arith, sum-const c n, suc-mul n c)
+
+-- n times nothing
+pub sum-zero : (n : ℕ) → sum (λ k. 0) n ≡ 0
+sum-zero n = omega (arith, sum-const 0 n)
+
+-- the first n numbers, and the m after them
+pub sum-split : (g : ℕ → ℕ) (n m : ℕ) → sum g (n + m) ≡ sum g n + sum (λ k. g (n + k)) m
+sum-split g n zero = rw (add-zero n) (omega arith)
+sum-split g n (suc m) = rw add-suc (omega (arith, sum-split g n m))
+
+-- the part of a number lies wholly before the start of a greater one
+pub sum-apart : (g : ℕ → ℕ) (k n : ℕ) → k < n → sum g k + g k ≤ sum g n
+sum-apart g k zero h = omega arith
+sum-apart g k (suc n) h = go (decLt k n) (sum-apart g k n)
+  where
+    go : Dec (k < n) → (k < n → sum g k + g k ≤ sum g n) → sum g k + g k ≤ sum g n + g n
+    go (yes l) ih = omega (arith, ih l)
+    go (no l) ih = let e : k ≡ n = omega arith in rw e (omega arith)
+
+module _ {A : Type 0} where
+  -- the pieces' lengths add up
+  pub cat-length : (f : ℕ → List A) (g : ℕ → ℕ) (n : ℕ) → ((k : ℕ) → k < n → length (f k) ≡ g k) → length (cat f n) ≡ sum g n
+  cat-length f g zero e = refl
+  cat-length f g (suc n) e =
+      omega (arith, length-append (cat f n) (f n), cat-length f g n (λ k l. e k (omega arith)), e n (omega arith))
+
+  -- one row more or not
+  pub keep-length : (p : A → Bool) (x : A) (xs : List A) → length (keep p (x ∷ xs)) ≡ bit (p x) + length (keep p xs)
+  keep-length p x xs = go (p x)
+    where
+      go : (b : Bool) → length {A = A} (elim b [ true ↦ x ∷ keep p xs | false ↦ keep p xs ]) ≡ bit b + length (keep p xs)
+      go true = omega arith
+      go false = omega arith
+
+  -- where all pass, all are kept
+  pub keep-all : (p : A → Bool) (xs : List A) → Every (λ x. p x ≡ true) xs → keep p xs ≡ xs
+  keep-all p [] h = refl
+  keep-all p (x ∷ xs) h = rw (h .0, keep) (ap (λ l. x ∷ l) (keep-all p xs (h .1)))
+
+  -- as many rows as were asked for
+  pub each-length : (row : ℕ → A) (n i₀ : ℕ) → length (each row n i₀) ≡ n
+  each-length row zero i₀ = refl
+  each-length row (suc n) i₀ = ap suc (each-length row n (i₀ + 1))
+
+  each-from : (row : ℕ → A) (n i₀ i : ℕ) (d : A) → i < n → getD (each row n i₀) i d ≡ row (i₀ + i)
+  each-from row zero i₀ i d h = absurd (omega arith)
+  each-from row (suc n) i₀ zero d h = ap row (sym (add-zero i₀))
+  each-from row (suc n) i₀ (suc i) d h =
+      let e : i₀ + 1 + i ≡ i₀ + suc i = omega arith in each-from row n (i₀ + 1) i d (omega arith) ∙ ap row e
+
+  -- each row at its place
+  pub each-at : (row : ℕ → A) (n i : ℕ) (d : A) → i < n → getD (each row n 0) i d ≡ row i
+  each-at row n i d h = each-from row n 0 i d h ∙ ap row (zero-add i)
+
+  -- what holds of all holds of those kept
+  pub every-keep : (P : A → Type 0) (p : A → Bool) (xs : List A) → Every P xs → Every P (keep p xs)
+  every-keep P p [] h = tt
+  every-keep P p (x ∷ xs) h = go (p x) (every-keep P p xs (h .1))
+    where
+      go : (b : Bool) → Every P (keep p xs) → Every P (elim b [ true ↦ x ∷ keep p xs | false ↦ keep p xs ])
+      go true i = (h .0, i)
+      go false i = i
+
+  -- what is kept passes
+  pub kept : (p : A → Bool) (xs : List A) → Every (λ x. p x ≡ true) (keep p xs)
+  kept p [] = tt
+  kept p (x ∷ xs) = go (p x) refl (kept p xs)
+    where
+      go : (b : Bool) → p x ≡ b → Every (λ x. p x ≡ true) (keep p xs) → Every (λ x. p x ≡ true) (elim b [ true ↦ x ∷ keep p xs | false ↦ keep p xs ])
+      go true e i = (e, i)
+      go false e i = i
+
+  -- a claim of each row that passes is a claim of all of those
+  pub every-those : (Q : A → Type 0) (p : ℕ → Bool) (row : ℕ → A) (n i₀ : ℕ)
+      → ((i : ℕ) → i₀ ≤ i → i < i₀ + n → p i ≡ true → Q (row i)) → Every Q (those p row n i₀)
+  every-those Q p row zero i₀ h = tt
+  every-those Q p row (suc n) i₀ h =
+      go (p i₀) refl (every-those Q p row n (i₀ + 1) (λ i l u. h i (omega arith) (omega arith)))
+    where
+      go : (b : Bool) → p i₀ ≡ b → Every Q (those p row n (i₀ + 1))
+          → Every Q (elim b [ true ↦ row i₀ ∷ those p row n (i₀ + 1) | false ↦ those p row n (i₀ + 1) ])
+      go true e r = (h i₀ (omega arith) (omega arith) e, r)
+      go false e r = r
+
+  -- a claim of each row is a claim of all
+  pub every-each : (Q : A → Type 0) (row : ℕ → A) (n i₀ : ℕ)
+      → ((i : ℕ) → i₀ ≤ i → i < i₀ + n → Q (row i)) → Every Q (each row n i₀)
+  every-each Q row zero i₀ h = tt
+  every-each Q row (suc n) i₀ h =
+      (h i₀ (omega arith) (omega arith), every-each Q row n (i₀ + 1) (λ i l u. h i (omega arith) (omega arith)))
+
+  -- a claim that follows holds of all too
+  pub every-map : (P Q : A → Type 0) (xs : List A) → ((x : A) → P x → Q x) → Every P xs → Every Q xs
+  every-map P Q [] f h = tt
+  every-map P Q (x ∷ xs) f h = (f x (h .0), every-map P Q xs f (h .1))
+
+  -- both claims of all
+  pub every-both : (P Q : A → Type 0) (xs : List A) → Every P xs → Every Q xs → Every (λ x. P x × Q x) xs
+  every-both P Q [] h i = tt
+  every-both P Q (x ∷ xs) h i = ((h .0, i .0), every-both P Q xs (h .1) (i .1))
+
+  -- what holds of anything holds of all
+  pub every-all : (P : A → Type 0) (xs : List A) → ((x : A) → P x) → Every P xs
+  every-all P [] f = tt
+  every-all P (x ∷ xs) f = (f x, every-all P xs f)
+
+  -- of one list and of another
+  pub every-append : (P : A → Type 0) (xs ys : List A) → Every P xs → Every P ys → Every P (xs ++ ys)
+  every-append P [] ys h i = i
+  every-append P (x ∷ xs) ys h i = (h .0, every-append P xs ys (h .1) i)
+
+  -- of every piece
+  pub every-cat : (P : A → Type 0) (f : ℕ → List A) (n : ℕ) → ((k : ℕ) → k < n → Every P (f k)) → Every P (cat f n)
+  every-cat P f zero h = tt
+  every-cat P f (suc n) h =
+      every-append P (cat f n) (f n) (every-cat P f n (λ k l. h k (omega arith))) (h n (omega arith))
+
+  -- what holds of all and of the default holds at every place
+  pub every-at : (P : A → Type 0) (xs : List A) (d : A) → P d → Every P xs → (i : ℕ) → P (getD xs i d)
+  every-at P [] d z h i = z
+  every-at P (x ∷ xs) d z h zero = h .0
+  every-at P (x ∷ xs) d z h (suc i) = every-at P xs d z (h .1) i
+
+-- of all images, from what holds of all
+pub every-image : {A B : Type 0} (P : B → Type 0) (f : A → B) (xs : List A) → Every (λ x. P (f x)) xs → Every P (map f xs)
+every-image P f [] h = tt
+every-image P f (x ∷ xs) h = (h .0, every-image P f xs (h .1))

@@ -1,0 +1,109 @@
+-- Some element of a list has a property: what that means of images, kept elements, joined lists and rows that pass a test.
+-- Assumes nothing.
+use Prim.Native.Nat.{ℕ, zero, suc, _+_, _≤_, _<_}
+use mathlib.Core.Path.{_≡_, refl, sym, subst}
+use mathlib.Core.Bool.{Bool, true, false}
+use mathlib.Core.List.{List, [], _∷_, _++_, map}
+use mathlib.Core.Logic.{_⊎_, inl, inr, ⊎-elim, _↔_}
+use native.Mathlib.Omega.{arith}
+use native.Mathlib.Decide.{ℕ-discrete}
+use Rattle.theory.specs.Claim.{Says}
+use Rattle.theory.specs.Lists.{those, keep, gather, member}
+use Rattle.theory.proofs.Bools.{clash, says-or, says-eq}
+
+module _ {A : Type 0} where
+  -- some element has Q
+  abbrev pub Has : (A → Type 0) → List A → Type 0
+  Has Q [] = ⊥
+  Has Q (x ∷ xs) = Q x ⊎ Has Q xs
+
+  -- what follows of any element that has Q
+  pub has-then : {R : Type 0} (Q : A → Type 0) (xs : List A) → ((x : A) → Q x → R) → Has Q xs → R
+  has-then Q [] f h = absurd h
+  has-then Q (x ∷ xs) f (inl q) = f x q
+  has-then Q (x ∷ xs) f (inr h) = has-then Q xs f h
+
+  -- an element that has Q has what follows
+  pub has-as : (Q S : A → Type 0) (xs : List A) → ((x : A) → Q x → S x) → Has Q xs → Has S xs
+  has-as Q S [] f h = h
+  has-as Q S (x ∷ xs) f (inl q) = inl (f x q)
+  has-as Q S (x ∷ xs) f (inr h) = inr (has-as Q S xs f h)
+
+  -- of the elements kept, and so of those that pass
+  pub has-keep : (Q : A → Type 0) (p : A → Bool) (xs : List A) → Has Q (keep p xs) ↔ Has (λ x. (p x ≡ true) × Q x) xs
+  has-keep Q p [] = (λ h. h, λ h. h)
+  has-keep Q p (x ∷ xs) = go (p x) refl (has-keep Q p xs)
+    where
+      R : A → Type 0
+      R y = (p y ≡ true) × Q y
+
+      go : (b : Bool) → p x ≡ b → Has Q (keep p xs) ↔ Has R xs
+          → Has Q (elim b [ true ↦ x ∷ keep p xs | false ↦ keep p xs ]) ↔ (R x ⊎ Has R xs)
+      go true e i = (⊎-elim (λ q. inl (e, q)) (λ h. inr (i .0 h)), ⊎-elim (λ r. inl (r .1)) (λ h. inr (i .1 h)))
+      go false e i = (λ h. inr (i .0 h), ⊎-elim (λ r. clash (r .0) e) (i .1))
+
+  -- of one list or of the other
+  has-append : (Q : A → Type 0) (xs ys : List A) → Has Q (xs ++ ys) ↔ (Has Q xs ⊎ Has Q ys)
+  has-append Q [] ys = (inr, ⊎-elim (λ h. absurd h) (λ h. h))
+  has-append Q (x ∷ xs) ys =
+      let i = has-append Q xs ys in (
+        ⊎-elim (λ q. inl (inl q)) (λ h. ⊎-elim (λ a. inl (inr a)) inr (i .0 h)),
+        ⊎-elim (⊎-elim inl (λ h. inr (i .1 (inl h)))) (λ h. inr (i .1 (inr h))),
+      )
+
+  -- of n rows from row i₀ on, those that pass
+  has-those-from : (Q : A → Type 0) (p : ℕ → Bool) (row : ℕ → A) (n i₀ : ℕ)
+      → Has Q (those p row n i₀) ↔ ((i : ℕ) × (i₀ ≤ i) × (i < i₀ + n) × (p i ≡ true) × Q (row i))
+  has-those-from Q p row zero i₀ = (λ h. absurd h, λ w. absurd (omega arith))
+  has-those-from Q p row (suc n) i₀ = go (p i₀) refl (has-those-from Q p row n (i₀ + 1))
+    where
+      Row : ℕ → ℕ → Type 0
+      Row n i₀ = (i : ℕ) × (i₀ ≤ i) × (i < i₀ + n) × (p i ≡ true) × Q (row i)
+
+      later : Row n (i₀ + 1) → Row (suc n) i₀
+      later w = (w .0, omega arith, omega arith, w .3, w .4)
+
+      now : (w : Row (suc n) i₀) → (i₀ ≡ w .0) ⊎ Row n (i₀ + 1)
+      now w = first (ℕ-discrete i₀ (w .0))
+        where
+          first : Dec (i₀ ≡ w .0) → (i₀ ≡ w .0) ⊎ Row n (i₀ + 1)
+          first (yes e) = inl e
+          first (no e) = inr (w .0, omega arith, omega arith, w .3, w .4)
+
+      go : (b : Bool) → p i₀ ≡ b → Has Q (those p row n (i₀ + 1)) ↔ Row n (i₀ + 1)
+          → Has Q (elim b [ true ↦ row i₀ ∷ those p row n (i₀ + 1) | false ↦ those p row n (i₀ + 1) ]) ↔ Row (suc n) i₀
+      go true e r = (
+        ⊎-elim (λ q. (i₀, omega arith, omega arith, e, q)) (λ h. later (r .0 h)),
+        λ w. ⊎-elim (λ s. inl (subst (λ j. Q (row j)) (sym s) (w .4))) (λ l. inr (r .1 l)) (now w),
+      )
+      go false e r = (
+        λ h. later (r .0 h),
+        λ w. ⊎-elim (λ s. clash (w .3) (subst (λ j. p j ≡ false) s e)) (r .1) (now w),
+      )
+
+  -- of the rows that pass: one of them has it
+  pub has-those : (Q : A → Type 0) (p : ℕ → Bool) (row : ℕ → A) (n : ℕ)
+      → Has Q (those p row n 0) ↔ ((i : ℕ) × (i < n) × (p i ≡ true) × Q (row i))
+  has-those Q p row n =
+      let r = has-those-from Q p row n 0 in
+      (λ h. let w = r .0 h in (w .0, omega arith, w .3, w .4), λ w. r .1 (w .0, omega arith, omega arith, w .2, w .3))
+
+module _ {A B : Type 0} where
+  -- of the images
+  pub has-map : (Q : B → Type 0) (f : A → B) (xs : List A) → Has Q (map f xs) ↔ Has (λ x. Q (f x)) xs
+  has-map Q f [] = (λ h. h, λ h. h)
+  has-map Q f (x ∷ xs) =
+      let i = has-map Q f xs in (⊎-elim inl (λ h. inr (i .0 h)), ⊎-elim inl (λ h. inr (i .1 h)))
+
+  -- of the lists of all of them
+  pub has-gather : (Q : B → Type 0) (f : A → List B) (xs : List A) → Has Q (gather f xs) ↔ Has (λ x. Has Q (f x)) xs
+  has-gather Q f [] = (λ h. h, λ h. h)
+  has-gather Q f (x ∷ xs) =
+      let i = has-gather Q f xs in
+      let a = has-append Q (f x) (gather f xs) in
+      (λ h. ⊎-elim inl (λ r. inr (i .0 r)) (a .0 h), λ h. a .1 (⊎-elim inl (λ r. inr (i .1 r)) h))
+
+-- the test of membership says that some element is the number
+pub member-says : (n : ℕ) (xs : List ℕ) → Says (member n xs) (Has (λ x. n ≡ x) xs)
+member-says n [] = record { yes = λ e. clash {b = false} e refl; no = λ e h. h }
+member-says n (x ∷ xs) = says-or (says-eq n x) (member-says n xs)

@@ -1,0 +1,6 @@
+-- What every layer's definitions are made of. Knows nothing of Giotto.
+pub mod Search
+pub mod Claim
+pub mod Verdict
+pub mod Lists
+pub mod Order

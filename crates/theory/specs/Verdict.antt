@@ -1,0 +1,45 @@
+-- "The first number that applies, in this order, is the verdict": once, for every call.
+-- Assumes nothing.
+use Prim.Native.Nat.{ℕ}
+use mathlib.Core.Path.{_≡_}
+use mathlib.Core.Bool.{Bool, true, false}
+use mathlib.Core.List.{List, [], _∷_, map}
+use mathlib.Core.Logic.{_⊎_}
+
+-- n where the test applies, else the rest
+abbrev pub orElse : Bool → ℕ → ℕ → ℕ
+orElse true n rest = n
+orElse false n rest = rest
+
+-- a refusal: its number, and the test that says whether it applies to what is lent
+pub record Refusal (A : Type 0) : Type 0 where
+  pub number : ℕ
+  pub applies : A → Bool
+
+-- the same refusal in a call that is lent more
+abbrev pub within : {A B : Type 0} → (B → A) → Refusal A → Refusal B
+within f r = record { number = r .number; applies = λ b. r .applies (f b) }
+
+-- the first number that applies; accepted is 0
+abbrev pub verdict : {A : Type 0} → List (Refusal A) → A → ℕ
+verdict [] a = 0
+verdict (r ∷ rs) a = let rest = verdict rs a in orElse (r .applies a) (r .number) rest
+
+-- a rule: its number, and what must hold of what is lent
+pub record Rule (A : Type 0) : Type 1 where
+  pub number : ℕ
+  pub holds : A → Type 0
+
+-- the same rule in a call that is lent more
+abbrev pub holding : {A B : Type 0} → (B → A) → Rule A → Rule B
+holding f r = record { number = r .number; holds = λ b. r .holds (f b) }
+
+-- n is the number of the first rule that is broken, and 0 where every rule holds
+abbrev pub First : {A : Type 0} → List (Rule A) → A → ℕ → Type 0
+First [] a n = n ≡ 0
+First (r ∷ rs) a n = ((r .holds a → ⊥) × (n ≡ r .number)) ⊎ (r .holds a × First rs a n)
+
+-- every rule holds
+abbrev pub Keep : {A : Type 0} → List (Rule A) → A → Type 0
+Keep [] a = Unit {0}
+Keep (r ∷ rs) a = r .holds a × Keep rs a

@@ -1,0 +1,3 @@
+-- Document 01's worked table.
+pub mod Table
+pub mod Runs

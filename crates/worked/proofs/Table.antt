@@ -1,0 +1,125 @@
+-- Document 01's worked table: every row marked (P), as a theorem about the definitions. Assumes nothing.
+use Prim.Native.Nat.{ℕ}
+use mathlib.Core.Path.{_≡_, refl}
+use mathlib.Core.Bool.{false}
+use mathlib.Core.List.{List, [], _∷_}
+use lib.IntN.{pos, negsuc}
+use lib.ListN.{length}
+use Rattle.cells.specs.Reading.{noReading, inside}
+use Rattle.program.specs.Tables.{Tables}
+use Rattle.program.specs.Units.{units}
+use Rattle.rules.specs.Verdict.{programVerdict}
+use Rattle.code.specs.Op.{Op, call, schedule, jump, future, return}
+use Rattle.code.specs.Compile.{listingOf}
+use Rattle.suppliers.specs.Supplier.{supplierVerdict}
+use Rattle.suppliers.specs.declared.Answer.{Answer}
+use Rattle.worked.specs.Computed.{computed}
+use Rattle.worked.specs.Programs.{F, bare, updated, guarded, intervalRow, switching, window}
+use Rattle.worked.specs.Programs as programs
+
+-- F is accepted, and has 2 units
+F-accepted : programVerdict (F 6 2) ≡ 0
+unfolding computed
+F-accepted = refl
+
+F-units : units (F 6 2) 0 ≡ 2
+unfolding computed
+F-units = refl
+
+-- F: 17 instructions, and the whole listing
+F-length : length (listingOf (F 6 2)) ≡ 17
+unfolding computed
+F-length = refl
+
+F-listing : listingOf (F 6 2)
+    ≡ jump 1
+    ∷ call 1000
+    ∷ call 1001
+    ∷ call 2
+    ∷ call 2000
+    ∷ call 0
+    ∷ call 1
+    ∷ schedule 0
+    ∷ schedule 1
+    ∷ future 5 11
+    ∷ return
+    ∷ call 1001
+    ∷ call 2000
+    ∷ call 1
+    ∷ schedule 1
+    ∷ future 5 1
+    ∷ return
+    ∷ []
+unfolding computed
+F-listing = refl
+
+-- a mode without rows, no sensor: 3 instructions
+bare-length : length (listingOf bare) ≡ 3
+unfolding computed
+bare-length = refl
+
+-- frequencies 3 and 64: 9; frequency 2, period 9: 9
+frequencies-3-and-64 : programVerdict (updated 192 (3 ∷ 64 ∷ [])) ≡ 9
+unfolding computed
+frequencies-3-and-64 = refl
+
+frequency-2-period-9 : programVerdict (updated 9 (2 ∷ [])) ≡ 9
+unfolding computed
+frequency-2-period-9 = refl
+
+-- guards 0..5 and 6..9 on one port pass; 0..5 and 5..9: 8; on two ports: 8
+guards-apart : programVerdict (guarded (intervalRow 0 (pos 0) (pos 5)) (intervalRow 0 (pos 6) (pos 9))) ≡ 0
+unfolding computed
+guards-apart = refl
+
+guards-meet : programVerdict (guarded (intervalRow 0 (pos 0) (pos 5)) (intervalRow 0 (pos 5) (pos 9))) ≡ 8
+unfolding computed
+guards-meet = refl
+
+guards-on-two-ports : programVerdict (guarded (intervalRow 0 (pos 0) (pos 5)) (intervalRow 1 (pos 6) (pos 9))) ≡ 8
+unfolding computed
+guards-on-two-ports = refl
+
+-- no reading is outside -2147483647..2147483647; low no-reading, high 0: 2
+no-reading-outside : inside (negsuc 2147483646) noReading (pos 2147483647) ≡ false
+unfolding computed
+no-reading-outside = refl
+
+low-no-reading-high-0 : programVerdict (guarded (intervalRow 0 noReading (pos 0)) (intervalRow 0 (pos 6) (pos 9))) ≡ 2
+unfolding computed
+low-no-reading-high-0 = refl
+
+-- period 12: task 2, switch 1 pass; task 3, switch 2: 10
+task-2-switch-1 : programVerdict (switching 2 1) ≡ 0
+unfolding computed
+task-2-switch-1 = refl
+
+task-3-switch-2 : programVerdict (switching 3 2) ≡ 10
+unfolding computed
+task-3-switch-2 = refl
+
+-- F, one supplier, t2 worst 2, both blocks dispatch t2 then t1 unless it says so, all timeouts 5: the answer for these
+-- worst-case times of t1, window and order
+answer : ℕ → List lib.IntN.ℤ → List lib.IntN.ℤ → Answer
+answer worst1 windows part =
+    supplierVerdict (record { tables = F worst1 2; windows = windows; part = part; supplier = pos 0 })
+
+-- t1 worst 6 passes
+t1-worst-6 : answer 6 (window 0 10) (programs.schedule 1 0) ≡ record { number = 0; mode = 0; tick = 0 }
+unfolding computed answer
+t1-worst-6 = refl
+
+-- t1 worst 7: 15 at tick 10
+t1-worst-7 : answer 7 (window 0 10) (programs.schedule 1 0) ≡ record { number = 15; mode = 0; tick = 10 }
+unfolding computed answer
+t1-worst-7 = refl
+
+-- t1 worst 6, window 0..9: 14 at tick 9
+window-to-9 : answer 6 (window 0 9) (programs.schedule 1 0) ≡ record { number = 14; mode = 0; tick = 9 }
+unfolding computed answer
+window-to-9 = refl
+
+-- t1 first, t1 worst 4: 15 at tick 5
+t1-first : answer 4 (window 0 10) (programs.schedule 0 1) ≡ record { number = 15; mode = 0; tick = 5 }
+unfolding computed answer
+t1-first = refl

@@ -1,0 +1,25 @@
+-- What the definitions compute with: a theorem with the line `unfolding computed` under its signature opens them all, so that
+-- `refl` runs a definition on a case. Assumes nothing.
+use Rattle.theory.specs.Search.{any, firstFrom, first}
+use Rattle.cells.specs.Cell.{nameOf, numAt, nameAt, wordAt}
+use Rattle.cells.specs.Reading.{inside, isMissing}
+use Rattle.program.specs.Sets.{isKind, isTaskPort, modePortAt, isInput, isOutput, isModePort, copiesFrom, copiesTo, isSource, isDestination}
+use Rattle.program.specs.Units.{misses, invMisses, updMisses, swMisses, isMultiple, units}
+use Rattle.rules.specs.Declared.{samePort, taskPortClash, taskPortsBad, copyClash, copiesBad, modePortClash, modePortsBad}
+use Rattle.rules.specs.Fields.{inRange, portBad, taskBad, taskPortBad, alwaysFits, intervalFits, driverBad, copyBad, modeBad, modePortBad, invocationBad, updateBad, switchBad, startBad, fieldsBad}
+use Rattle.rules.specs.Modes.{someOutput, someInput, somePort, someSource, someDestination, unread, invocationClash, invocationWrong, invocationsBad, updateClash, updateWrong, updatesBad, switchClash, switchWrong, switchesBad}
+use Rattle.rules.specs.Shape.{badSlice, badLength, shapeBad}
+use Rattle.rules.specs.Timing.{unitsWrong, unitsBad, notWhole, wholeBad}
+use Rattle.rules.specs.Verdict.{programVerdict}
+use Rattle.code.specs.Compile.{listingOf, codeLong, sliceShort, compileVerdict}
+use Rattle.code.specs.Listing.{listing}
+use Rattle.runs.specs.Windows.{windowHas, inWindow, shareTick}
+use Rattle.suppliers.specs.Schedule.{dispatchFits, idleFits, precedes, rowWrong, rowsBad, partBad, rowsOf, joinedBad}
+use Rattle.suppliers.specs.Supplier.{partVerdict, supplierVerdict}
+use Rattle.suppliers.specs.Windows.{windowWrong, windowsBad, windowsVerdict}
+use Rattle.machine.specs.Advance.{freshAnswer, advanceShapeBad, stateBad, advanceVerdict, advanceAnswer}
+use Rattle.text.specs.Shipped.{shipped}
+
+unfoldable pub computed : Unit {0}
+unfolding any firstFrom first nameOf numAt nameAt wordAt inside isMissing isKind isTaskPort modePortAt isInput isOutput isModePort copiesFrom copiesTo isSource isDestination misses invMisses updMisses swMisses isMultiple units samePort taskPortClash taskPortsBad copyClash copiesBad modePortClash modePortsBad inRange portBad taskBad taskPortBad alwaysFits intervalFits driverBad copyBad modeBad modePortBad invocationBad updateBad switchBad startBad fieldsBad someOutput someInput somePort someSource someDestination unread invocationClash invocationWrong invocationsBad updateClash updateWrong updatesBad switchClash switchWrong switchesBad badSlice badLength shapeBad unitsWrong unitsBad notWhole wholeBad programVerdict listingOf codeLong sliceShort compileVerdict listing windowHas inWindow shareTick dispatchFits idleFits precedes rowWrong rowsBad partBad rowsOf joinedBad partVerdict supplierVerdict windowWrong windowsBad windowsVerdict freshAnswer advanceShapeBad stateBad advanceVerdict advanceAnswer shipped
+computed = tt

@@ -1,0 +1,4 @@
+-- The programs of the worked table, and what the definitions compute with.
+pub mod Computed
+pub mod Programs
+pub mod Systems

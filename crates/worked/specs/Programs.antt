@@ -1,0 +1,75 @@
+-- The programs of document 01's worked table. All first values are 0, the start mode is 0. Assumes nothing.
+use Prim.Native.Nat.{ℕ, zero, suc}
+use mathlib.Core.List.{List, [], _∷_, _++_, map}
+use lib.IntN.{ℤ, pos, negsuc}
+use Rattle.program.specs.Tables.{Tables, tables, sensor, actuator, input, output, kindAlways, kindInterval}
+
+-- a table of numbers that are not negative
+abbrev pub numbers : List ℕ → List ℤ
+numbers ns = map pos ns
+
+-- n ports of a kind
+abbrev pub ports : ℕ → ℕ → List ℤ
+ports zero kind = []
+ports (suc n) kind = pos kind ∷ pos 0 ∷ ports n kind
+
+-- a driver that copies always, or in an interval of a port
+abbrev pub alwaysRow : List ℤ
+alwaysRow = pos kindAlways ∷ pos 0 ∷ pos 0 ∷ pos 0 ∷ []
+
+abbrev pub intervalRow : ℕ → ℤ → ℤ → List ℤ
+intervalRow port low high = pos kindInterval ∷ pos port ∷ low ∷ high ∷ []
+
+-- Program F, with the worst-case times of t1 and t2, both of supplier 0.
+-- Ports: 0 s, 1 a, 2..6 i1..i5, 7..11 o1..o5
+abbrev pub F : ℕ → ℕ → Tables
+F worst1 worst2 =
+    tables
+    (ports 1 sensor ++ (ports 1 actuator ++ (ports 5 input ++ ports 5 output)))
+    (numbers (0 ∷ worst1 ∷ 0 ∷ worst2 ∷ []))
+    (numbers (0 ∷ 2 ∷ 0 ∷ 3 ∷ 0 ∷ 8 ∷ 0 ∷ 9 ∷ 1 ∷ 4 ∷ 1 ∷ 5 ∷ 1 ∷ 6 ∷ 1 ∷ 10 ∷ 1 ∷ 11 ∷ []))
+    (alwaysRow ++ (alwaysRow ++ alwaysRow))
+    (numbers (0 ∷ 7 ∷ 2 ∷ 0 ∷ 10 ∷ 3 ∷ 1 ∷ 9 ∷ 4 ∷ 1 ∷ 0 ∷ 5 ∷ 1 ∷ 11 ∷ 6 ∷ 2 ∷ 8 ∷ 1 ∷ []))
+    (numbers (10 ∷ []))
+    (numbers (0 ∷ 7 ∷ 0 ∷ 8 ∷ 0 ∷ 9 ∷ 0 ∷ 10 ∷ 0 ∷ 11 ∷ []))
+    (numbers (0 ∷ 1 ∷ 0 ∷ 0 ∷ 0 ∷ 2 ∷ 1 ∷ 1 ∷ []))
+    (numbers (0 ∷ 1 ∷ 2 ∷ []))
+    []
+    (pos 0)
+
+-- a mode without rows, and no sensor
+abbrev pub bare : Tables
+bare = tables [] [] [] [] [] (numbers (10 ∷ [])) [] [] [] [] (pos 0)
+
+-- updates of these frequencies, by a driver that moves nothing, in a mode of this period
+abbrev pub updateRows : List ℕ → List ℤ
+updateRows [] = []
+updateRows (f ∷ fs) = pos 0 ∷ pos f ∷ pos 0 ∷ updateRows fs
+
+abbrev pub updated : ℕ → List ℕ → Tables
+updated period frequencies =
+    tables [] [] [] alwaysRow [] (numbers (period ∷ [])) [] [] (updateRows frequencies) [] (pos 0)
+
+-- two sensors, and a mode that switches to itself by drivers with these two rows
+abbrev pub guarded : List ℤ → List ℤ → Tables
+guarded one other =
+    tables (ports 2 sensor) [] [] (one ++ other) [] (numbers (10 ∷ [])) [] [] [] (numbers (0 ∷ 1 ∷ 0 ∷ 0 ∷ 0 ∷ 1 ∷ 0 ∷ 1 ∷ [])) (pos 0)
+
+-- period 12, a task and a switch of these frequencies
+abbrev pub switching : ℕ → ℕ → Tables
+switching taskFrequency switchFrequency =
+    tables [] (numbers (0 ∷ 1 ∷ [])) [] alwaysRow [] (numbers (12 ∷ [])) []
+    (numbers (0 ∷ taskFrequency ∷ 0 ∷ 0 ∷ []))
+    []
+    (numbers (0 ∷ switchFrequency ∷ 0 ∷ 0 ∷ []))
+    (pos 0)
+
+-- F's schedule code: in both blocks, at addresses 9 and 15, dispatch one task, then the other, all timeouts 5
+abbrev pub schedule : ℕ → ℕ → List ℤ
+schedule one other =
+    numbers
+    (0 ∷ 9 ∷ 0 ∷ one ∷ 5 ∷ 0 ∷ 9 ∷ 0 ∷ other ∷ 5 ∷ 0 ∷ 15 ∷ 0 ∷ one ∷ 5 ∷ 0 ∷ 15 ∷ 0 ∷ other ∷ 5 ∷ [])
+
+-- one window of supplier 0 in mode 0
+abbrev pub window : ℕ → ℕ → List ℤ
+window from to = numbers (0 ∷ 0 ∷ from ∷ to ∷ [])

@@ -1,0 +1,99 @@
+-- Two systems that run: F, and a monitor of two modes whose switches are taken. What a run shows, tick by tick.
+-- Assumes nothing.
+use Prim.Native.Nat.{ℕ, zero, suc, _+_, _*_}
+use mathlib.Core.Bool.{Bool, true, false}
+use mathlib.Core.List.{List, [], _∷_, _++_, map}
+use lib.Dec.{eqb}
+use lib.IntN.{ℤ, pos, negsuc, natAbs}
+use lib.ListN.{replicate}
+use Rattle.cells.specs.Cell.{eqZ}
+use Rattle.cells.specs.Reading.{noReading}
+use Rattle.program.specs.Tables.{Tables, tables, sensor, actuator, input, output}
+use Rattle.program.specs.Program.{programOf}
+use Rattle.giotto.specs.Instant.{Configuration, Function}
+use Rattle.giotto.specs.Execution.{initial, pass}
+use Rattle.machine.specs.declared.State.{State}
+use Rattle.machine.specs.declared.Advanced.{Advanced}
+use Rattle.machine.specs.Advance.{freshAnswer}
+use Rattle.demands.specs.Composed.{System, advanced}
+use Rattle.demands.specs.Supplied.{lentTo}
+use Rattle.worked.specs.Programs.{numbers, ports, alwaysRow, intervalRow, F, schedule, window}
+
+-- F, its code by supplier 0
+abbrev pub partsOf : List ℤ → List ℤ → ℕ → List ℤ
+partsOf one other zero = one
+partsOf one other (suc zero) = other
+partsOf one other (suc (suc s)) = []
+
+abbrev pub F-system : System
+F-system = record { tables = F 6 2; windows = window 0 10; parts = partsOf (schedule 1 0) [] }
+
+-- The monitor. Ports: 0 the measured resistance, 1 the relay, 2 and 3 the tasks' inputs, 4 their output.
+-- Mode 0, period 4: task 0 of supplier 0, twice; a missing reading switches to mode 1.
+-- Mode 1, period 2: task 1 of supplier 1, once; a reading 0..100 switches back.
+abbrev pub monitor : Tables
+monitor =
+    tables
+    (ports 1 sensor ++ (ports 1 actuator ++ (ports 2 input ++ ports 1 output)))
+    (numbers (0 ∷ 1 ∷ 1 ∷ 2 ∷ []))
+    (numbers (0 ∷ 2 ∷ 0 ∷ 4 ∷ 1 ∷ 3 ∷ 1 ∷ 4 ∷ []))
+    (alwaysRow ++ (alwaysRow ++ (alwaysRow ++ (intervalRow 0 noReading noReading ++ intervalRow 0 (pos 0) (pos 100)))))
+    (numbers (0 ∷ 0 ∷ 2 ∷ 1 ∷ 0 ∷ 3 ∷ 2 ∷ 4 ∷ 1 ∷ 3 ∷ 4 ∷ 4 ∷ 4 ∷ 4 ∷ 4 ∷ []))
+    (numbers (4 ∷ 2 ∷ []))
+    (numbers (0 ∷ 4 ∷ 1 ∷ 4 ∷ []))
+    (numbers (0 ∷ 2 ∷ 0 ∷ 0 ∷ 1 ∷ 1 ∷ 1 ∷ 1 ∷ []))
+    (numbers (0 ∷ 1 ∷ 2 ∷ 1 ∷ 1 ∷ 2 ∷ []))
+    (numbers (0 ∷ 1 ∷ 1 ∷ 3 ∷ 1 ∷ 1 ∷ 0 ∷ 4 ∷ []))
+    (pos 0)
+
+-- its blocks are at 7 and 15 in mode 0 and at 23 in mode 1
+abbrev pub monitor-system : System
+monitor-system = record {
+  tables = monitor;
+  windows = numbers (0 ∷ 0 ∷ 0 ∷ 4 ∷ 1 ∷ 1 ∷ 0 ∷ 2 ∷ []);
+  parts = partsOf (numbers (0 ∷ 7 ∷ 0 ∷ 0 ∷ 2 ∷ 0 ∷ 15 ∷ 0 ∷ 0 ∷ 2 ∷ [])) (numbers (1 ∷ 23 ∷ 0 ∷ 1 ∷ 2 ∷ []));
+}
+
+-- a task function that tells tasks, ports and inputs apart
+abbrev pub weigh : List ℤ → ℕ
+weigh [] = 0
+weigh (x ∷ xs) = natAbs x + 2 * weigh xs
+
+abbrev pub mix : Function
+mix t values p = pos (100 * t + 10 * p + weigh values)
+
+-- readings and times that change from tick to tick; every third round of the monitor has no reading
+abbrev pub readings : ℕ → List ℤ
+readings n = pos n ∷ replicate 63 (pos 0)
+
+abbrev pub gaps : ℕ → List ℤ
+gaps n = elim (eqb n 4) [
+  | true ↦ noReading ∷ replicate 63 (pos 0)
+  | false ↦ elim (eqb n 6) [ true ↦ noReading ∷ replicate 63 (pos 0) | false ↦ readings n ]
+]
+
+abbrev pub times : List ℕ → ℕ → List ℤ
+times ts n = map pos ts ++ replicate 30 (pos 0)
+
+-- two lists of values are equal
+abbrev pub same : List ℤ → List ℤ → Bool
+same [] [] = true
+same [] (y ∷ ys) = false
+same (x ∷ xs) [] = false
+same (x ∷ xs) (y ∷ ys) = elim (eqZ x y) [ true ↦ same xs ys | false ↦ false ]
+
+-- k ticks from tick n on, the machine in state s and Giotto in configuration C: no advance is refused, and after each the
+-- ports are Giotto's
+abbrev pub agrees : System → Function → (ℕ → List ℤ) → (ℕ → List ℤ) → ℕ → ℕ → State → Configuration → Bool
+agrees Y F rs ts zero n s C = true
+agrees Y F rs ts (suc k) n s C =
+    let a = advanced Y (lentTo Y F rs ts n s) s in
+    let D = pass (programOf (Y .tables)) F n (rs n) C in
+    elim (a .number) [
+      | zero ↦ elim (same (a .state .ports) (D .ports)) [ true ↦ agrees Y F rs ts k (suc n) (a .state) D | false ↦ false ]
+      | suc v ↦ false
+    ]
+
+-- from a fresh state
+abbrev pub runsAsGiotto : System → Function → (ℕ → List ℤ) → (ℕ → List ℤ) → ℕ → Bool
+runsAsGiotto Y F rs ts k = agrees Y F rs ts k 0 (freshAnswer (Y .tables) .state) (initial (programOf (Y .tables)) F)
