@@ -6,34 +6,54 @@ pub struct Program(pub i32);
 impl Program {
     // Most rows of each table.
     pub const PORTS: usize = 64;
+
     pub const TASKS: usize = 32;
+
     pub const TASK_PORTS: usize = 128;
+
     pub const DRIVERS: usize = 64;
+
     pub const COPIES: usize = 256;
+
     pub const MODES: usize = 8;
+
     pub const MODE_PORTS: usize = 256;
+
     pub const INVOCATIONS: usize = 64;
+
     pub const UPDATES: usize = 64;
+
     pub const SWITCHES: usize = 64;
+
     pub const WINDOWS: usize = 256;
     // Schedule rows of one supplier, and in all.
     pub const PART: usize = 256;
+
     pub const SCHEDULE: usize = 2048;
+
     pub const SUPPLIERS: usize = 8;
     // The most of a field.
     pub const WORST: usize = 4096;
+
     pub const PERIOD: usize = 4096;
+
     pub const FREQUENCY: usize = 64;
+
     pub const UNITS: usize = 64;
     // E code: instructions, words of one, delay of a `future`.
     pub const CODE: usize = 4096;
+
     pub const WORDS: usize = 3;
+
     pub const DELAY: usize = 4096;
     // The state: elapsed and remaining ticks of a unit, remaining time of a task.
     pub const ELAPSED: usize = 4096;
+
     pub const REMAINING: usize = 4096;
+
     pub const LEFT: usize = 4096;
     // Call numbers: drivers from 0, output copies and sensor readings from these.
     pub const OUTPUT_CALL: usize = 1000;
+
     pub const SENSOR_CALL: usize = 2000;
 }

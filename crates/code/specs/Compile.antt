@@ -10,7 +10,7 @@ use Rattle.theory.specs.Verdict.{Refusal, within, verdict, Rule, holding}
 use Rattle.cells.specs.Limits.{maxCode, wordsEach}
 use Rattle.program.specs.Tables.{Tables}
 use Rattle.program.specs.Program.{programOf}
-use Rattle.rules.specs.Verdict.{shapeRefusal, tableRefusals, programRules}
+use Rattle.rules.specs.Verdict.{shapeRefusal, tableRefusals, tableRules, programRules}
 use Rattle.code.specs.Op.{Op, call, schedule, branch, jump, future, return, faulty, emit}
 use Rattle.code.specs.Listing.{listing}
 use Rattle.code.specs.declared.Compiled.{Compiled}
@@ -32,6 +32,15 @@ CodeFits T = length (listingOf T) ≤ maxCode
 abbrev pub longRule : Rule Tables
 longRule = record { number = 11; holds = CodeFits }
 
+-- what a call asks that is lent the tables and more: its own 1, then 2 to 11 of the tables, then numbers of its own
+abbrev pub lentRefusals : {A : Type 0} → (A → Tables) → (A → Bool) → List (Refusal A) → List (Refusal A)
+lentRefusals tables shape own =
+    record { number = 1; applies = shape } ∷ (map (within tables) (tableRefusals ++ (longRefusal ∷ [])) ++ own)
+
+abbrev pub lentRules : {A : Type 0} → (A → Tables) → (A → Type 0) → List (Rule A) → List (Rule A)
+lentRules tables shape own =
+    record { number = 1; holds = shape } ∷ (map (holding tables) (tableRules ++ (longRule ∷ [])) ++ own)
+
 -- compiling is lent a slice too: 11 also where the listing exceeds it
 pub record Compiling : Type 0 where
   pub tables : Tables
@@ -40,17 +49,21 @@ pub record Compiling : Type 0 where
 unfoldable pub sliceShort : Compiling → Bool
 sliceShort L = ltb (length (L .slice)) (wordsEach * length (listingOf (L .tables)))
 
+abbrev pub sliceRefusals : List (Refusal Compiling)
+sliceRefusals = record { number = 11; applies = λ L. codeLong (L .tables) || sliceShort L } ∷ []
+
+abbrev pub compileRefusals : List (Refusal Compiling)
+compileRefusals = map (within (λ (L : Compiling). L .tables)) (shapeRefusal ∷ tableRefusals) ++ sliceRefusals
+
 unfoldable pub compileVerdict : Compiling → ℕ
-compileVerdict L =
-    verdict
-    (map (within (λ (L : Compiling). L .tables)) (shapeRefusal ∷ tableRefusals)
-    ++ (record { number = 11; applies = λ L. codeLong (L .tables) || sliceShort L } ∷ []))
-    L
+compileVerdict L = verdict compileRefusals L
+
+abbrev pub sliceRules : List (Rule Compiling)
+sliceRules =
+    record { number = 11; holds = λ L. CodeFits (L .tables) × (wordsEach * length (listingOf (L .tables)) ≤ length (L .slice)) } ∷ []
 
 abbrev pub compileRules : List (Rule Compiling)
-compileRules =
-    map (holding (λ (L : Compiling). L .tables)) programRules
-    ++ (record { number = 11; holds = λ L. CodeFits (L .tables) × (wordsEach * length (listingOf (L .tables)) ≤ length (L .slice)) } ∷ [])
+compileRules = map (holding (λ (L : Compiling). L .tables)) programRules ++ sliceRules
 
 -- the answer, and the slice as it is left
 abbrev pub compileAnswer : Compiling → Compiled

@@ -1,4 +1,5 @@
 -- What is proved of the demands so far.
+pub mod Calls
 pub mod Verdict
 pub mod Supplied
 pub mod Supplier

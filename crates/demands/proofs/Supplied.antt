@@ -24,31 +24,19 @@ use Rattle.rules.specs.Shape.{badSlice, shapeBad}
 use Rattle.rules.specs.Fields.{InRange}
 use Rattle.rules.specs.Verdict.{programVerdict}
 use Rattle.rules.proofs.Shape.{ports-few, tasks-few}
-use Rattle.rules.proofs.Accepted.{accepted-shaped, accepted-fields, lent-accepted}
+use Rattle.rules.proofs.Accepted.{accepted-shaped, accepted-fields}
 use Rattle.code.specs.Op.{instructions}
-use Rattle.code.specs.Compile.{longRefusal}
 use Rattle.giotto.specs.Instant.{Function, results}
 use Rattle.giotto.specs.Execution.{releasedAt}
 use Rattle.giotto.proofs.Released.{released-declared}
-use Rattle.runs.specs.Windows.{windowWidth}
-use Rattle.suppliers.specs.Windows.{Windowed, windowsBad, windowsVerdict}
+use Rattle.suppliers.specs.Windows.{windowsVerdict}
+use Rattle.suppliers.proofs.Accepted.{windows-accepted}
 use Rattle.machine.specs.Instant.{Outcome, ok, stop}
 use Rattle.machine.specs.Schedules.{Who, nobody, one, several, running}
 use Rattle.machine.specs.Advance.{ready}
 use Rattle.machine.specs.declared.State.{State}
 use Rattle.demands.specs.Composed.{System, joined, code, advanced, stateAt, Fair}
 use Rattle.demands.specs.Supplied.{givenBy, givenIn, lentTo, history, supplied}
-
--- what the windows verdict asks beyond the program's
-beyond : List (Refusal Windowed)
-beyond = map (within (λ (L : Windowed). L .tables)) (longRefusal ∷ []) ++ (record { number = 12; applies = windowsBad } ∷ [])
-
--- windows are accepted only with their program
-pub windows-accepted : (L : Windowed) → windowsVerdict L ≡ 0 → programVerdict (L .tables) ≡ 0
-unfolding windowsVerdict beyond
-windows-accepted L e =
-    lent-accepted (λ (L : Windowed). L .tables) (λ L. shapeBad (L .tables) || badSlice windowWidth maxWindows (L .windows)) beyond L
-    (λ s. neither (shapeBad (L .tables)) (badSlice windowWidth maxWindows (L .windows)) s .0) e
 
 -- each task's worst-case time, as it is lent
 abbrev pub worstTimes : Program → List ℤ

@@ -129,9 +129,9 @@ module _ (L : Asked) (x W : List ℤ) (n : length (L .tables .tasks) ≡ length 
   unfolding supplierVerdict
   changed-same a b =
       let e : partVerdict L ≡ partVerdict (changed L x W) =
-          part-after L a
-          ∙ (λ i. orElse (badSlice scheduleWidth maxPart (L .part)) 1 (orElse (part-tasks (L .tables) x (supplierOf L) n p q (L .part) (supplierOf L) i) 13 0))
-          ∙ sym (part-after (changed L x W) b) in
+      part-after L a
+      ∙ (λ i. orElse (badSlice scheduleWidth maxPart (L .part)) 1 (orElse (part-tasks (L .tables) x (supplierOf L) n p q (L .part) (supplierOf L) i) 13 0))
+      ∙ sym (part-after (changed L x W) b) in
       λ i. elim (e i) as (λ n. Answer) [ zero ↦ judged-same i | suc n ↦ record { number = suc n; mode = 0; tick = 0 } ]
 
 -- other suppliers' worst-case times and windows do not matter

@@ -16,7 +16,7 @@ use Rattle.rules.specs.Shape.{shapeBad}
 use Rattle.rules.proofs.Accepted.{lent-accepted}
 use Rattle.rules.proofs.Verdict.{program-first, program-accepted, missing-guard}
 use Rattle.code.specs.Op.{Op, emit, instructions}
-use Rattle.code.specs.Compile.{Compiling, listingOf, codeLong, sliceShort, compileVerdict, compileAnswer, compileSlice}
+use Rattle.code.specs.Compile.{Compiling, listingOf, codeLong, sliceShort, sliceRefusals, compileVerdict, compileAnswer, compileSlice}
 use Rattle.code.proofs.Words.{emit-instructions, emit-length}
 use Rattle.code.proofs.Accepted.{accepted-length}
 use Rattle.demands.specs.Verdict.{VerdictExact, AcceptedExactly, MissingReading, ListingWritten, RefusalKeeps}
@@ -37,18 +37,15 @@ missing-reading T v a d l k w = missing-guard T v a d l k w
 own : List (Refusal Compiling)
 own = map (within (λ (L : Compiling). L .tables)) (shapeRefusal ∷ tableRefusals)
 
-eleven : List (Refusal Compiling)
-eleven = record { number = 11; applies = λ L. codeLong (L .tables) || sliceShort L } ∷ []
-
 accepted : (L : Compiling) → compileVerdict L ≡ 0 → programVerdict (L .tables) ≡ 0
-unfolding compileVerdict eleven
-accepted L e = lent-accepted (λ (L : Compiling). L .tables) (λ L. shapeBad (L .tables)) eleven L (λ s. s) e
+unfolding compileVerdict
+accepted L e = lent-accepted (λ (L : Compiling). L .tables) (λ L. shapeBad (L .tables)) sliceRefusals L (λ s. s) e
 
 fits : (L : Compiling) → compileVerdict L ≡ 0 → (length (listingOf (L .tables)) ≤ maxCode) × (wordsEach * length (listingOf (L .tables)) ≤ length (L .slice))
-unfolding compileVerdict own eleven codeLong sliceShort
+unfolding compileVerdict own codeLong sliceShort
 fits L e =
     (bars-lt maxCode (length (listingOf (L .tables))) or bars-lt (length (L .slice)) (wordsEach * length (listingOf (L .tables)))) .ok
-    (verdict-clear eleven L (omega arith) (verdict-both own eleven L (omega arith) e .1) .0)
+    (verdict-clear sliceRefusals L (omega arith) (verdict-both own sliceRefusals L (omega arith) e .1) .0)
 
 -- not refused: the listing is written, and nothing else
 pub listing-written : ListingWritten

@@ -1,6 +1,7 @@
 -- Demand 1, as statements: a refusal carries the number that document 01 gives, under exactly the condition given there. For
 -- each call that judges, its number is n exactly where rule n of that call is broken and no earlier one is. (That a call ends,
--- does nothing undefined and leaves lent memory as it says is what the check of its function shows.) Assumes nothing.
+-- does nothing undefined and leaves lent memory as it says is what the check of its function shows.) Proved in proofs/Calls.antt.
+-- Assumes nothing.
 use Prim.Native.Nat.{ℕ}
 use mathlib.Core.Path.{_≡_}
 use mathlib.Core.Logic.{_↔_}

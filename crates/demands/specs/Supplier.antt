@@ -1,6 +1,6 @@
 -- Demand 3, first half, as statements: a supplier's schedule code is accepted exactly when, in every mode and for every
 -- choice of execution times, it stays in its windows and ends in time; the place; the independence of other suppliers.
--- The proofs are to come with the supplier verdict (docs/ARCHITECTURE.md). Assumes nothing.
+-- Proved of these definitions in proofs/Supplier.antt. Assumes nothing.
 use Prim.Native.Nat.{ℕ, _≤_, _<_}
 use mathlib.Core.Path.{_≡_}
 use mathlib.Core.List.{List}
@@ -12,8 +12,8 @@ use Rattle.theory.specs.Lists.{those}
 use Rattle.program.specs.Tables.{Tables, modeCount, taskCount, taskSupplier, taskWorst}
 use Rattle.runs.specs.Windows.{windowCount, winSupplier, winMode, winFrom, winTo}
 use Rattle.runs.specs.Round.{Choice, Good, Fair, worstCase, Break, none, outside, late, FirstBreak}
-use Rattle.suppliers.specs.Windows.{Windowed, windowsVerdict}
-use Rattle.suppliers.specs.Supplier.{Asked, supplierOf, courseOf, nothing, partVerdict, supplierVerdict}
+use Rattle.suppliers.specs.Windows.{windowsVerdict}
+use Rattle.suppliers.specs.Supplier.{Asked, supplierOf, courseOf, nothing, windowedOf, partVerdict, supplierVerdict}
 use Rattle.suppliers.specs.declared.Answer.{Answer}
 
 -- Program and windows accepted, the part well-formed (1 to 13 do not apply): accepted exactly when, in every mode, reached or
@@ -69,6 +69,6 @@ Independent =
     (L K : Asked) → L .part ≡ K .part → L .supplier ≡ K .supplier
     → SameFor (supplierOf L) (L .tables) (K .tables)
     → ownWindows (L .windows) (supplierOf L) ≡ ownWindows (K .windows) (supplierOf K)
-    → windowsVerdict (record { tables = L .tables; windows = L .windows }) ≡ 0
-    → windowsVerdict (record { tables = K .tables; windows = K .windows }) ≡ 0
+    → windowsVerdict (windowedOf L) ≡ 0
+    → windowsVerdict (windowedOf K) ≡ 0
     → supplierVerdict L ≡ supplierVerdict K

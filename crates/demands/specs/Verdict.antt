@@ -1,6 +1,6 @@
 -- Demand 2, as statements: a program is accepted exactly when it meets the published rules of Giotto, as bounded in document
 -- 01; the E code is the one listing; a missing reading lies in no interval but its own.
--- What is proved of them stands in docs/ARCHITECTURE.md. Assumes nothing.
+-- Proved of these definitions in proofs/Verdict.antt. Assumes nothing.
 use Prim.Native.Nat.{ℕ, _*_, _≤_, _<_}
 use mathlib.Core.Path.{_≡_}
 use mathlib.Core.List.{List, []}

@@ -1,5 +1,6 @@
 -- 001's successor configuration (section 3.2), step by step and port by port, as a claim over the tables; bounded as in
--- document 01 (no private ports, a switch enters unit 0). `instant` computes it. Assumes nothing.
+-- document 01 (no private ports, a switch enters unit 0). `instant` computes it, and nothing else
+-- succeeds: `instant-succeeds` and `successor-one` in proofs/. Assumes nothing.
 use Prim.Native.Nat.{ℕ, suc, _+_, _/_, _%_, _<_}
 use mathlib.Core.Path.{_≡_}
 use mathlib.Core.Bool.{true}

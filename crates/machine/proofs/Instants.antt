@@ -92,14 +92,15 @@ module _ (P : Program) (readings times : List ℤ) (code : List Op) where
 
   -- the instant ends, and leaves s
   pub instant-ends : (u s : State) → (instant P readings times code u ≡ ok s) ↔ Ends P readings times code (length code) (startAt P readings times code u) s
-  instant-ends u s =
-      (λ e. subst (Claim (length code) (startAt P readings times code u)) e (comes (length code) (startAt P readings times code u)),
-      λ c.
+  instant-ends u s = (
+    λ e. subst (Claim (length code) (startAt P readings times code u)) e (comes (length code) (startAt P readings times code u)),
+    λ c.
         let z : length code - c .before ≡ suc (length code - suc (c .before)) = omega (arith, c .in-count) in
         follow (c .before) (length code) (startAt P readings times code u) (c .last) (omega (arith, c .in-count)) (c .goes)
         ∙ ap (λ (k : ℕ). run P readings times code k (c .last)) z
         ∙ at-return (length code - suc (c .before)) (c .last) (c .not-refused) (c .returns)
-        ∙ ap ok (c .leaves))
+        ∙ ap ok (c .leaves),
+  )
 
   -- the instant is refused with n
   pub instant-stops : (u : State) (n : ℕ)

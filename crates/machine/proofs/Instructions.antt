@@ -15,7 +15,8 @@ use Rattle.theory.proofs.Bools.{clash, says-le, says-or, says-and, says-not, sa
 use Rattle.cells.specs.Cell.{numAt}
 use Rattle.cells.specs.Limits.{maxDelay, firstOutputCall, firstSensorCall}
 use Rattle.program.specs.Program.{Program, task}
-use Rattle.rules.specs.Fields.{inRange, InRange}
+use Rattle.rules.specs.Fields.{InRange}
+use Rattle.rules.proofs.Fields.{range-says}
 use Rattle.code.specs.Op.{Op, call, schedule, branch, jump, future, return, faulty}
 use Rattle.machine.specs.declared.State.{State}
 use Rattle.machine.specs.Instruction.{Call, driverCall, outputCall, sensorCall, callOf, namesNothing, NamesNothing, isFaulty, Faulty, timeBad, TimeBad, stillCalled, StillCalled, stillRunning, StillRunning}
@@ -37,10 +38,6 @@ sensor-range p =
     let b : ltb (firstSensorCall + p) firstSensorCall ≡ false = le-ltb (firstSensorCall + p) firstSensorCall (omega arith) in
     let e : firstSensorCall + p - firstSensorCall ≡ p = omega arith in
     rw (a, callOf) (rw b (ap sensorCall e))
-
-range-says : (n limit : ℕ) → Says (inRange n limit) (InRange n limit)
-unfolding inRange
-range-says n limit = says-and (says-le 1 n) (says-le n limit)
 
 -- 19
 names-says : (P : Program) (c : Call) → Says (namesNothing P c) (NamesNothing P c)

@@ -3,21 +3,21 @@
 use Prim.Native.Nat.{ℕ, zero, suc, _/_, _≤_, _<_}
 use mathlib.Core.Path.{_≡_}
 use mathlib.Core.Bool.{Bool, true, false, _||_}
-use mathlib.Core.List.{List, [], _∷_, _++_, map}
+use mathlib.Core.List.{List, [], _∷_}
 use lib.Dec.{ltb, leb}
 use lib.IntN.{ℤ, pos}
 use lib.ListN.{length, getD, replicate}
 use Rattle.theory.specs.Search.{any}
-use Rattle.theory.specs.Verdict.{Refusal, within, verdict, Rule, holding}
+use Rattle.theory.specs.Verdict.{Refusal, verdict, Rule}
 use Rattle.cells.specs.Limits.{suppliers, maxPorts, maxTasks, maxSchedule, maxCode, wordsEach, maxElapsed, maxRemaining, maxLeft}
 use Rattle.program.specs.Tables.{Tables}
 use Rattle.program.specs.Program.{Program, programOf}
 use Rattle.rules.specs.Shape.{badSlice, badLength, shapeBad, WholeRows, Shaped}
-use Rattle.rules.specs.Verdict.{tableRefusals, tableRules, programVerdict}
+use Rattle.rules.specs.Verdict.{programVerdict}
 use Rattle.runs.specs.Tick.{leftOf}
 use Rattle.runs.specs.Schedule.{scheduleWidth, scheduleCount}
 use Rattle.code.specs.Op.{Op, instructions}
-use Rattle.code.specs.Compile.{longRefusal, longRule}
+use Rattle.code.specs.Compile.{lentRefusals, lentRules}
 use Rattle.suppliers.specs.Schedule.{joinedBad, Joined}
 use Rattle.machine.specs.declared.State.{State}
 use Rattle.machine.specs.declared.Advanced.{Advanced}
@@ -95,23 +95,21 @@ pub record StateFits (L : Advance) : Type 0 where
   pub positions : (j : ℕ) → j < suppliers → getD (L .state .positions) j 0 ≤ scheduleCount (L .schedule)
 
 -- the static verdict: 1 to 11, 13, 21
+abbrev pub runRefusals : List (Refusal Advance)
+runRefusals =
+    record { number = 13; applies = λ L. joinedBad (L .tables) (L .schedule) } ∷ record { number = 21; applies = stateBad } ∷ []
+
+abbrev pub advanceRefusals : List (Refusal Advance)
+advanceRefusals = lentRefusals (λ L. L .tables) advanceShapeBad runRefusals
+
 unfoldable pub advanceVerdict : Advance → ℕ
-advanceVerdict L =
-    verdict
-    (record { number = 1; applies = advanceShapeBad }
-    ∷ (map (within (λ (L : Advance). L .tables)) (tableRefusals ++ (longRefusal ∷ []))
-    ++ (record { number = 13; applies = λ L. joinedBad (L .tables) (L .schedule) }
-    ∷ record { number = 21; applies = stateBad }
-    ∷ [])))
-    L
+advanceVerdict L = verdict advanceRefusals L
+
+abbrev pub runRules : List (Rule Advance)
+runRules = record { number = 13; holds = λ L. Joined (L .tables) (L .schedule) } ∷ record { number = 21; holds = StateFits } ∷ []
 
 abbrev pub advanceRules : List (Rule Advance)
-advanceRules =
-    record { number = 1; holds = AdvanceShaped }
-    ∷ (map (holding (λ (L : Advance). L .tables)) (tableRules ++ (longRule ∷ []))
-    ++ (record { number = 13; holds = λ L. Joined (L .tables) (L .schedule) }
-    ∷ record { number = 21; holds = StateFits }
-    ∷ []))
+advanceRules = lentRules (λ L. L .tables) AdvanceShaped runRules
 
 -- the step: E code if no tick of the unit remains, then one tick of the schedules
 abbrev pub ready : Program → List Op → List ℤ → List ℤ → State → Outcome

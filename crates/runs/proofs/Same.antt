@@ -31,8 +31,8 @@ pub judge-same : (C D : Course) → SameCourse C D → (c d : Choice) → ((k j 
 judge-same C D s c d h zero k left = refl
 judge-same C D s c d h (suc u) k left =
     let q : release (C .released k) (c k) left ≡ release (D .released k) (d k) left =
-        release-same (C .released k) (c k) (d k) (h k) left ∙ ap (λ r. release (r k) (d k) left) (s .released) in
-    λ i. elim (Rattle.runs.specs.Round.ticks (s .window i) (s .block i k) (s .ticks i) 0 (k * s .ticks i) (record { position = 0; left = q i })) [
+    release-same (C .released k) (c k) (d k) (h k) left ∙ ap (λ r. release (r k) (d k) left) (s .released) in
+    λ i. elim (ticks (s .window i) (s .block i k) (s .ticks i) 0 (k * s .ticks i) (record { position = 0; left = q i })) [
       | left-at t ↦ outside t
       | ended r ↦ elim (unfinished (s .ending i k) r) [ true ↦ late (suc k * s .ticks i) | false ↦ judge-same C D s c d h u (suc k) r i ]
     ]

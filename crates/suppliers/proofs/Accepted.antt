@@ -1,13 +1,14 @@
 -- A supplier's part that is not refused by 1 to 13: the program is accepted, and every task of it that is released takes time.
--- Assumes that the verdict on the part is 0; of `part-after`, that the windows verdict is.
+-- Assumes that the verdict on the part is 0; of `windows-accepted` and `part-after`, that the windows verdict is.
 use Prim.Native.Nat.{ℕ, _<_}
-use mathlib.Core.Path.{_≡_, refl, _∙_}
-use mathlib.Core.Bool.{Bool, true, false, _||_}
+use mathlib.Core.Path.{_≡_}
+use mathlib.Core.Bool.{true, _||_}
 use mathlib.Core.List.{List, [], _∷_, _++_, map}
 use native.Mathlib.Omega.{arith}
 use lib.Dec.{eqb}
-use Rattle.theory.specs.Verdict.{Refusal, orElse, within, verdict}
-use Rattle.theory.proofs.Verdict.{Clear, verdict-clear}
+use Rattle.theory.specs.Verdict.{Refusal, orElse, within}
+use Rattle.theory.proofs.Bools.{neither}
+use Rattle.theory.proofs.Verdict.{verdict-clear, verdict-skip}
 use Rattle.theory.proofs.Members.{Has, has-as, has-keep, member-says}
 use Rattle.cells.specs.Limits.{maxWindows, maxPart}
 use Rattle.program.specs.Tables.{Tables, modeCount, taskCount}
@@ -20,61 +21,49 @@ use Rattle.code.specs.Compile.{longRefusal}
 use Rattle.runs.specs.Windows.{windowWidth}
 use Rattle.runs.specs.Schedule.{scheduleWidth}
 use Rattle.runs.proofs.Exactly.{SomeTime}
-use Rattle.suppliers.specs.Windows.{Windowed, windowsBad, windowsVerdict}
+use Rattle.suppliers.specs.Windows.{Windowed, windowsBad, windowsShapeBad, windowRefusals, windowsRefusals, windowsVerdict}
 use Rattle.suppliers.specs.Schedule.{partBad}
-use Rattle.suppliers.specs.Supplier.{Asked, supplierOf, ownTasks, courseOf, partVerdict}
+use Rattle.suppliers.specs.Supplier.{Asked, supplierOf, ownTasks, courseOf, partShapeBad, windowedOf, ownRefusals, partVerdict}
 
-or-none : (a b : Bool) → (a || b) ≡ false → a ≡ false
-or-none true b e = e
-or-none false b e = refl
+-- windows are accepted only with their program
+pub windows-accepted : (L : Windowed) → windowsVerdict L ≡ 0 → programVerdict (L .tables) ≡ 0
+unfolding windowsVerdict windowsShapeBad
+windows-accepted L e =
+    lent-accepted (λ (L : Windowed). L .tables) windowsShapeBad (within (λ L. L .tables) longRefusal ∷ windowRefusals) L
+    (λ s. neither (shapeBad (L .tables)) (badSlice windowWidth maxWindows (L .windows)) s .0) e
 
--- what the verdict on a part asks, number 1, and after the program's own numbers
-shape : Asked → Bool
-shape L = shapeBad (L .tables) || badSlice windowWidth maxWindows (L .windows) || badSlice scheduleWidth maxPart (L .part)
-
-more : List (Refusal Asked)
-more =
-    within (λ (L : Asked). L .tables) longRefusal
-    ∷ record { number = 12; applies = λ L. windowsBad (record { tables = L .tables; windows = L .windows }) }
-    ∷ record { number = 13; applies = λ L. partBad (L .tables) (L .part) (supplierOf L) }
-    ∷ []
-
--- what the windows verdict asks; what the verdict on a part asks between number 1 and number 13
-windowed : List (Refusal Windowed)
-windowed =
-    record { number = 1; applies = λ L. shapeBad (L .tables) || badSlice windowWidth maxWindows (L .windows) }
-    ∷ (map (within (λ (L : Windowed). L .tables)) (tableRefusals ++ (longRefusal ∷ [])) ++ (record { number = 12; applies = windowsBad } ∷ []))
-
-between : List (Refusal Asked)
+-- what the verdict on a part asks between number 1 and number 13
+abbrev between : List (Refusal Asked)
 between =
     map (within (λ (L : Asked). L .tables)) (tableRefusals ++ (longRefusal ∷ []))
-    ++ (record { number = 12; applies = λ L. windowsBad (record { tables = L .tables; windows = L .windows }) } ∷ [])
-
-skip : (rs qs : List (Refusal Asked)) (L : Asked) → Clear rs L → verdict (rs ++ qs) L ≡ verdict qs L
-skip [] qs L c = refl
-skip (r ∷ rs) qs L c = (λ i. orElse (c .0 i) (r .number) (verdict (rs ++ qs) L)) ∙ skip rs qs L (c .1)
+    ++ (record { number = 12; applies = λ L. windowsBad (windowedOf L) } ∷ [])
 
 -- where the windows verdict is 0, the verdict on a part asks only for the part's shape and number 13
-pub part-after : (L : Asked) → windowsVerdict (record { tables = L .tables; windows = L .windows }) ≡ 0
+pub part-after : (L : Asked) → windowsVerdict (windowedOf L) ≡ 0
     → partVerdict L ≡ orElse (badSlice scheduleWidth maxPart (L .part)) 1 (orElse (partBad (L .tables) (L .part) (supplierOf L)) 13 0)
-unfolding partVerdict windowsVerdict windowed between
+unfolding partVerdict windowsVerdict partShapeBad windowsShapeBad
 part-after L e =
-    let c = verdict-clear windowed (record { tables = L .tables; windows = L .windows }) (omega arith) e in
+    let c = verdict-clear windowsRefusals (windowedOf L) (omega arith) e in
     λ i. orElse (c .0 i || badSlice scheduleWidth maxPart (L .part)) 1
-        (skip between (record { number = 13; applies = λ L. partBad (L .tables) (L .part) (supplierOf L) } ∷ []) L (c .1) i)
+    (verdict-skip between (record { number = 13; applies = λ L. partBad (L .tables) (L .part) (supplierOf L) } ∷ []) L (c .1) i)
 
 module _ (L : Asked) (a : partVerdict L ≡ 0) where
   -- the program is accepted
   pub part-accepted : programVerdict (L .tables) ≡ 0
-  unfolding partVerdict shape more
-  part-accepted = lent-accepted (λ (L : Asked). L .tables) shape more L (λ e. or-none _ _ (or-none _ _ e)) a
+  unfolding partVerdict partShapeBad
+  part-accepted =
+      lent-accepted (λ (L : Asked). L .tables) partShapeBad (within (λ L. L .tables) longRefusal ∷ ownRefusals) L
+      (λ e.
+      neither (shapeBad (L .tables)) (badSlice windowWidth maxWindows (L .windows))
+      (neither (shapeBad (L .tables) || badSlice windowWidth maxWindows (L .windows)) (badSlice scheduleWidth maxPart (L .part)) e .0) .0)
+      a
 
   -- in every declared mode, each released task of the supplier takes at least one tick
   pub part-some-time : (m : ℕ) → m < modeCount (L .tables) → SomeTime (courseOf L m)
   part-some-time m l k j r =
       let h : Has (λ x. j ≡ x) (ownTasks P s due) = member-says j (ownTasks P s due) .yes r in
       let w = has-tasks T m k l (λ x. j ≡ x) .0
-          (has-as (λ x. (eqb (task P x .supplier) s ≡ true) × (j ≡ x)) (λ x. j ≡ x) due (λ x q. q .1) (has-keep (λ x. j ≡ x) (λ x. eqb (task P x .supplier) s) due .0 h)) in
+      (has-as (λ x. (eqb (task P x .supplier) s ≡ true) × (j ≡ x)) (λ x. j ≡ x) due (λ x q. q .1) (has-keep (λ x. j ≡ x) (λ x. eqb (task P x .supplier) s) due .0 h)) in
       let f = accepted-fields T part-accepted in
       let b : j < taskCount T = omega (arith, w .4, f .invocations (w .0) (w .1) .task) in
       rw (task-row T j b) (f .tasks j b .worst .0)

@@ -58,13 +58,18 @@ module _ (breaks : ℕ → Break) where
       all : (i : ℕ) → m ≤ i → i < m + suc n → Dec (m ≡ i) → breaks i ≡ none
       all i l h (yes p) = subst (λ k. breaks k ≡ none) p e
       all i l h (no p) = g i (omega arith) (omega arith)
-  next n m a e (inr (i, b, w, q)) = inr (i, b, record {
-    from = omega (arith, w .from);
-    below = omega (arith, w .below);
-    lower = λ j l k. low j l k (ℕ-discrete m j);
-    break = w .break;
-    is-break = w .is-break;
-  }, q)
+  next n m a e (inr (i, b, w, q)) = inr (
+    i,
+    b,
+    record {
+      from = omega (arith, w .from);
+      below = omega (arith, w .below);
+      lower = λ j l k. low j l k (ℕ-discrete m j);
+      break = w .break;
+      is-break = w .is-break;
+    },
+    q,
+  )
     where
       low : (j : ℕ) → m ≤ j → j < i → Dec (m ≡ j) → breaks j ≡ none
       low j l k (yes p) = subst (λ k. breaks k ≡ none) p e

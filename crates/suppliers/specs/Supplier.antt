@@ -2,20 +2,19 @@
 -- all worst-case times; the place is the lowest mode, then the lowest tick. Assumes nothing.
 use Prim.Native.Nat.{ℕ, zero, suc}
 use mathlib.Core.Bool.{Bool, _||_}
-use mathlib.Core.List.{List, [], _∷_, _++_, map}
+use mathlib.Core.List.{List, [], _∷_}
 use lib.Dec.{eqb}
 use lib.IntN.{ℤ}
 use lib.ListN.{length, replicate}
 use Rattle.theory.specs.Lists.{keep}
-use Rattle.theory.specs.Verdict.{Refusal, within, verdict, Rule, holding}
+use Rattle.theory.specs.Verdict.{Refusal, verdict, Rule}
 use Rattle.cells.specs.Cell.{indexOf}
 use Rattle.cells.specs.Limits.{maxTasks, maxWindows, maxPart}
 use Rattle.program.specs.Tables.{Tables}
 use Rattle.program.specs.Program.{Program, programOf, task, mode, ticksOf, nextUnit, dueTasks}
 use Rattle.rules.specs.Shape.{badSlice, shapeBad, WholeRows, Shaped}
-use Rattle.rules.specs.Verdict.{tableRefusals, tableRules}
 use Rattle.code.specs.Listing.{futureAddress}
-use Rattle.code.specs.Compile.{longRefusal, longRule}
+use Rattle.code.specs.Compile.{lentRefusals, lentRules}
 use Rattle.runs.specs.Windows.{windowWidth, inWindow}
 use Rattle.runs.specs.Schedule.{scheduleWidth, blockOf}
 use Rattle.runs.specs.Round.{Course, Break, none, outside, late, worstBreak}
@@ -69,23 +68,37 @@ abbrev pub judged : Asked → Answer
 judged L = answerFrom (λ m. worstBreak (courseOf L m) nothing) (length (programOf (L .tables) .modes)) 0
 
 -- 1 to 13
-unfoldable pub partVerdict : Asked → ℕ
-partVerdict L =
-    verdict
-    (record { number = 1; applies = λ L. shapeBad (L .tables) || badSlice windowWidth maxWindows (L .windows) || badSlice scheduleWidth maxPart (L .part) }
-    ∷ (map (within (λ (L : Asked). L .tables)) (tableRefusals ++ (longRefusal ∷ []))
-    ++ (record { number = 12; applies = λ L. windowsBad (record { tables = L .tables; windows = L .windows }) }
+unfoldable pub partShapeBad : Asked → Bool
+partShapeBad L =
+    shapeBad (L .tables) || badSlice windowWidth maxWindows (L .windows) || badSlice scheduleWidth maxPart (L .part)
+
+-- the windows as they are lent here too
+abbrev pub windowedOf : Asked → Windowed
+windowedOf L = record { tables = L .tables; windows = L .windows }
+
+abbrev pub ownRefusals : List (Refusal Asked)
+ownRefusals =
+    record { number = 12; applies = λ L. windowsBad (windowedOf L) }
     ∷ record { number = 13; applies = λ L. partBad (L .tables) (L .part) (supplierOf L) }
-    ∷ [])))
-    L
+    ∷ []
+
+abbrev pub partRefusals : List (Refusal Asked)
+partRefusals = lentRefusals (λ L. L .tables) partShapeBad ownRefusals
+
+unfoldable pub partVerdict : Asked → ℕ
+partVerdict L = verdict partRefusals L
+
+abbrev pub PartShaped : Asked → Type 0
+PartShaped L = Shaped (L .tables) × WholeRows windowWidth maxWindows (L .windows) × WholeRows scheduleWidth maxPart (L .part)
+
+abbrev pub ownRules : List (Rule Asked)
+ownRules =
+    record { number = 12; holds = λ L. Windows (windowedOf L) }
+    ∷ record { number = 13; holds = λ L. Part (L .tables) (L .part) (supplierOf L) }
+    ∷ []
 
 abbrev pub partRules : List (Rule Asked)
-partRules =
-    record { number = 1; holds = λ L. Shaped (L .tables) × WholeRows windowWidth maxWindows (L .windows) × WholeRows scheduleWidth maxPart (L .part) }
-    ∷ (map (holding (λ (L : Asked). L .tables)) (tableRules ++ (longRule ∷ []))
-    ++ (record { number = 12; holds = λ L. Windows (record { tables = L .tables; windows = L .windows }) }
-    ∷ record { number = 13; holds = λ L. Part (L .tables) (L .part) (supplierOf L) }
-    ∷ []))
+partRules = lentRules (λ L. L .tables) PartShaped ownRules
 
 -- the verdict on a supplier's schedule code
 unfoldable pub supplierVerdict : Asked → Answer

@@ -2,16 +2,15 @@
 -- them. The windows verdict. Assumes nothing.
 use Prim.Native.Nat.{ℕ, _≤_, _<_}
 use mathlib.Core.Bool.{Bool, not, _&&_, _||_}
-use mathlib.Core.List.{List, [], _∷_, _++_, map}
+use mathlib.Core.List.{List, [], _∷_}
 use lib.Dec.{ltb, leb}
 use lib.IntN.{ℤ}
 use Rattle.theory.specs.Search.{any}
-use Rattle.theory.specs.Verdict.{Refusal, within, verdict, Rule, holding}
+use Rattle.theory.specs.Verdict.{Refusal, verdict, Rule}
 use Rattle.cells.specs.Limits.{suppliers, maxWindows}
 use Rattle.program.specs.Tables.{Tables, modeCount, modePeriod}
 use Rattle.rules.specs.Shape.{badSlice, shapeBad, WholeRows, Shaped}
-use Rattle.rules.specs.Verdict.{tableRefusals, tableRules}
-use Rattle.code.specs.Compile.{longRefusal, longRule}
+use Rattle.code.specs.Compile.{lentRefusals, lentRules}
 use Rattle.runs.specs.Windows.{windowWidth, windowCount, winSupplier, winMode, winFrom, winTo, shareTick, Has}
 
 -- the tables and the windows, as they are lent
@@ -42,16 +41,23 @@ pub record Windows (L : Windowed) : Type 0 where
   pub apart : (i j m t : ℕ) → j < i → i < windowCount (L .windows) → Has (L .windows) i m t → Has (L .windows) j m t → ⊥
 
 -- the windows verdict: 1 to 12
+unfoldable pub windowsShapeBad : Windowed → Bool
+windowsShapeBad L = shapeBad (L .tables) || badSlice windowWidth maxWindows (L .windows)
+
+abbrev pub windowRefusals : List (Refusal Windowed)
+windowRefusals = record { number = 12; applies = windowsBad } ∷ []
+
+abbrev pub windowsRefusals : List (Refusal Windowed)
+windowsRefusals = lentRefusals (λ L. L .tables) windowsShapeBad windowRefusals
+
 unfoldable pub windowsVerdict : Windowed → ℕ
-windowsVerdict L =
-    verdict
-    (record { number = 1; applies = λ L. shapeBad (L .tables) || badSlice windowWidth maxWindows (L .windows) }
-    ∷ (map (within (λ (L : Windowed). L .tables)) (tableRefusals ++ (longRefusal ∷ []))
-    ++ (record { number = 12; applies = windowsBad } ∷ [])))
-    L
+windowsVerdict L = verdict windowsRefusals L
+
+abbrev pub WindowsShaped : Windowed → Type 0
+WindowsShaped L = Shaped (L .tables) × WholeRows windowWidth maxWindows (L .windows)
+
+abbrev pub windowRules : List (Rule Windowed)
+windowRules = record { number = 12; holds = Windows } ∷ []
 
 abbrev pub windowsRules : List (Rule Windowed)
-windowsRules =
-    record { number = 1; holds = λ L. Shaped (L .tables) × WholeRows windowWidth maxWindows (L .windows) }
-    ∷ (map (holding (λ (L : Windowed). L .tables)) (tableRules ++ (longRule ∷ []))
-    ++ (record { number = 12; holds = Windows } ∷ []))
+windowsRules = lentRules (λ L. L .tables) WindowsShaped windowRules

@@ -7,7 +7,7 @@ use mathlib.Core.List.{List, [], _∷_, _++_, map}
 use mathlib.Core.Logic.{_⊎_, inl, inr, _↔_}
 use native.Mathlib.Omega.{arith}
 use Rattle.theory.specs.Claim.{Bars}
-use Rattle.theory.specs.Verdict.{orElse, Refusal, within, verdict, Rule, First, Keep}
+use Rattle.theory.specs.Verdict.{orElse, Refusal, within, verdict, Rule, holding, First, Keep}
 
 -- the first number, and the second where the first is none
 abbrev pub after : ℕ → ℕ → ℕ
@@ -107,6 +107,11 @@ module _ {A : Type 0} where
       go true (suc n) d ih = refl
       go false n d ih = ih
 
+  -- where no test of the first list applies, the second list decides
+  pub verdict-skip : (rs qs : List (Refusal A)) (a : A) → Clear rs a → verdict (rs ++ qs) a ≡ verdict qs a
+  verdict-skip [] qs a c = refl
+  verdict-skip (r ∷ rs) qs a c = (λ i. orElse (c .0 i) (r .number) (verdict (rs ++ qs) a)) ∙ verdict-skip rs qs a (c .1)
+
   -- accepted by them together: by each
   pub verdict-both : (rs qs : List (Refusal A)) (a : A) → Refused rs → verdict (rs ++ qs) a ≡ 0 → (verdict rs a ≡ 0) × (verdict qs a ≡ 0)
   verdict-both rs qs a w e = after-none (verdict rs a) (verdict qs a) (sym (verdict-append rs qs a w) ∙ e)
@@ -115,3 +120,18 @@ module _ {A : Type 0} where
 pub verdict-within : {A B : Type 0} (f : B → A) (rs : List (Refusal A)) (b : B) → verdict (map (within f) rs) b ≡ verdict rs (f b)
 verdict-within f [] b = refl
 verdict-within f (r ∷ rs) b = ap (orElse (r .applies (f b)) (r .number)) (verdict-within f rs b)
+
+-- tests and rules of a call that is lent more, and of two lists one after the other
+pub barred-within : {A B : Type 0} (f : B → A) (rs : List (Refusal A)) (gs : List (Rule A)) (b : B) → Barred rs gs (f b)
+    → Barred (map (within f) rs) (map (holding f) gs) b
+barred-within f [] [] b w = tt
+barred-within f [] (g ∷ gs) b w = absurd w
+barred-within f (r ∷ rs) [] b w = absurd w
+barred-within f (r ∷ rs) (g ∷ gs) b w = (w .0, w .1, λ h. barred-within f rs gs b (w .2 h))
+
+pub barred-append : {A : Type 0} (rs qs : List (Refusal A)) (gs hs : List (Rule A)) (a : A)
+    → Barred rs gs a → Barred qs hs a → Barred (rs ++ qs) (gs ++ hs) a
+barred-append [] qs [] hs a w v = v
+barred-append [] qs (g ∷ gs) hs a w v = absurd w
+barred-append (r ∷ rs) qs [] hs a w v = absurd w
+barred-append (r ∷ rs) qs (g ∷ gs) hs a w v = (w .0, w .1, λ h. barred-append rs qs gs hs a (w .2 h) v)
