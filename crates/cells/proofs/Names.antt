@@ -13,32 +13,32 @@ use lib.Signed.{ltZ}
 use borrow.Author.Tests.{ltb-true, ltb-false, lt-ltb, le-ltb, le-leb}
 use Rattle.theory.specs.Order.{_≤Z_}
 use Rattle.theory.proofs.Bools.{clash}
-use Rattle.cells.specs.Cell.{indexOf, nobody, nameOf, numAt}
+use Rattle.cells.specs.Cell.{indexOf, unnamed, nameOf, numAt}
 
 -- a number that names a row below k is one of 0..k-1
 pub index-below : (z : ℤ) (k : ℕ) → k ≤ 2147483648 → (indexOf z < k) ↔ ((pos 0 ≤Z z) × (ltZ z (pos k) ≡ true))
 index-below (pos n) k h = (λ l. (le-leb 0 n (omega arith), lt-ltb n k l), λ r. ltb-true n k (r .1))
 index-below (negsuc n) k h = (λ l. absurd (omega arith), λ r. clash {b = false} (r .0) refl)
 
--- a name that is not `nobody` is the number itself
-pub name-small : (n : ℕ) → n < nobody → nameOf n ≡ n
+-- a name that is not `unnamed` is the number itself
+pub name-small : (n : ℕ) → n < unnamed → nameOf n ≡ n
 unfolding nameOf
-name-small n h = simp (lt-ltb n nobody h)
+name-small n h = simp (lt-ltb n unnamed h)
 
--- any other number names nobody
-pub name-nobody : (n : ℕ) → nobody ≤ n → nameOf n ≡ nobody
+-- any other number names unnamed
+pub name-unnamed : (n : ℕ) → unnamed ≤ n → nameOf n ≡ unnamed
 unfolding nameOf
-name-nobody n h = simp (le-ltb n nobody h)
+name-unnamed n h = simp (le-ltb n unnamed h)
 
 -- a name below k is the name of a number below k
-pub name-below : (n k : ℕ) → k ≤ nobody → (nameOf n < k) ↔ (n < k)
-name-below n k h = go (ltb n nobody) refl
+pub name-below : (n k : ℕ) → k ≤ unnamed → (nameOf n < k) ↔ (n < k)
+name-below n k h = go (ltb n unnamed) refl
   where
-    go : (b : Bool) → ltb n nobody ≡ b → (nameOf n < k) ↔ (n < k)
-    go true e = let s = name-small n (ltb-true n nobody e) in (λ l. omega arith, λ l. omega arith)
+    go : (b : Bool) → ltb n unnamed ≡ b → (nameOf n < k) ↔ (n < k)
+    go true e = let s = name-small n (ltb-true n unnamed e) in (λ l. omega arith, λ l. omega arith)
     go false e =
-        let s = name-nobody n (ltb-false n nobody e) in
-        (λ l. absurd (omega arith), λ l. absurd (omega (arith, ltb-false n nobody e)))
+        let s = name-unnamed n (ltb-false n unnamed e) in
+        (λ l. absurd (omega arith), λ l. absurd (omega (arith, ltb-false n unnamed e)))
 
 -- past the end of a table stands 0
 pub past-end : (t : List ℤ) (i : ℕ) → length t ≤ i → numAt t i ≡ 0

@@ -17,12 +17,12 @@ indexOf (pos n) = n
 indexOf (negsuc n) = 2147483648
 
 -- names nothing
-abbrev pub nobody : ℕ
-nobody = 255
+abbrev pub unnamed : ℕ
+unnamed = 255
 
--- the number of a kind (port, task, driver, mode): one byte, `nobody` for all that is larger, since every table has fewer rows
+-- the number of a kind (port, task, driver, mode): one byte, `unnamed` for all that is larger, since every table has fewer rows
 unfoldable pub nameOf : ℕ → ℕ
-nameOf n = cond (ltb n nobody) n nobody
+nameOf n = cond (ltb n unnamed) n unnamed
 
 unfoldable pub numAt : List ℤ → ℕ → ℕ
 numAt t i = indexOf (cellAt t i)

@@ -1,6 +1,6 @@
 -- The listing of a program: "address 0 is a jump to unit 0 of the start mode; then, by mode and unit, a block".
 -- Rows keep table order, sensors port order; addresses by counting. Assumes nothing.
-use Prim.Native.Nat.{ℕ, zero, suc, _+_, _*_}
+use Prim.Native.Nat.{ℕ, _+_, _*_}
 use mathlib.Core.List.{List, [], _∷_, _++_, map}
 use lib.ListN.{length}
 use Rattle.theory.specs.Lists.{cat, sum}

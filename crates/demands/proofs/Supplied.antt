@@ -3,24 +3,21 @@
 -- Assumes that program and windows are accepted.
 use Prim.Native.Nat.{ℕ, zero, suc, _<_}
 use mathlib.Core.Path.{_≡_, refl, ap, subst, _∙_}
-use mathlib.Core.Bool.{true, _||_}
-use mathlib.Core.List.{List, [], _∷_, _++_, map}
+use mathlib.Core.Bool.{true}
+use mathlib.Core.List.{List}
 use native.Mathlib.Omega.{arith}
 use lib.IntN.{ℤ, pos}
 use lib.ListN.{length, replicate}
 use Rattle.theory.specs.Lists.{each, member}
-use Rattle.theory.specs.Verdict.{Refusal, within}
-use Rattle.theory.proofs.Bools.{neither}
 use Rattle.theory.proofs.Lists.{each-length, each-at}
 use Rattle.theory.proofs.Puts.{puts-length}
 use Rattle.cells.specs.Cell.{indexOf, numAt}
-use Rattle.cells.specs.Limits.{maxPorts, maxTasks, maxWindows}
+use Rattle.cells.specs.Limits.{maxPorts, maxTasks}
 use Rattle.program.specs.Tables.{Tables, taskCount}
 use Rattle.program.specs.Program.{Program, programOf, task}
 use Rattle.program.specs.Ports.{valueOf, takes}
 use Rattle.program.proofs.Decoded.{task-row, output-declared}
 use Rattle.program.proofs.Ports.{takes-at}
-use Rattle.rules.specs.Shape.{badSlice, shapeBad}
 use Rattle.rules.specs.Fields.{InRange}
 use Rattle.rules.specs.Verdict.{programVerdict}
 use Rattle.rules.proofs.Shape.{ports-few, tasks-few}

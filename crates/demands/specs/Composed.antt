@@ -11,10 +11,10 @@ use Rattle.theory.specs.Lists.{cat, member}
 use Rattle.cells.specs.Cell.{numAt}
 use Rattle.cells.specs.Limits.{suppliers, maxPorts, maxTasks}
 use Rattle.program.specs.Tables.{Tables}
-use Rattle.program.specs.Program.{Program, programOf, task}
+use Rattle.program.specs.Program.{programOf, task}
 use Rattle.program.specs.Ports.{valueOf, valuesOf}
 use Rattle.rules.specs.Fields.{InRange}
-use Rattle.code.specs.Op.{Op, emit, instructions}
+use Rattle.code.specs.Op.{emit, instructions}
 use Rattle.code.specs.Compile.{listingOf}
 use Rattle.suppliers.specs.Windows.{windowsVerdict}
 use Rattle.suppliers.specs.Supplier.{supplierVerdict}

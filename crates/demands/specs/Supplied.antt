@@ -7,7 +7,7 @@ use lib.ListN.{replicate}
 use Rattle.theory.specs.Lists.{puts}
 use Rattle.cells.specs.Limits.{maxPorts}
 use Rattle.program.specs.Program.{Program, programOf, task}
-use Rattle.program.specs.Ports.{valuesOf, takes}
+use Rattle.program.specs.Ports.{takes}
 use Rattle.code.specs.Op.{instructions}
 use Rattle.giotto.specs.Instant.{Function, results}
 use Rattle.machine.specs.Instant.{Outcome, ok, stop}

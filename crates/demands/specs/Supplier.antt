@@ -1,7 +1,7 @@
 -- Demand 3, first half, as statements: a supplier's schedule code is accepted exactly when, in every mode and for every
 -- choice of execution times, it stays in its windows and ends in time; the place; the independence of other suppliers.
 -- Proved of these definitions in proofs/Supplier.antt. Assumes nothing.
-use Prim.Native.Nat.{ℕ, _≤_, _<_}
+use Prim.Native.Nat.{ℕ, _<_}
 use mathlib.Core.Path.{_≡_}
 use mathlib.Core.List.{List}
 use mathlib.Core.Logic.{_↔_}
@@ -9,12 +9,11 @@ use lib.Dec.{eqb}
 use lib.IntN.{ℤ}
 use lib.ListN.{length}
 use Rattle.theory.specs.Lists.{those}
-use Rattle.program.specs.Tables.{Tables, modeCount, taskCount, taskSupplier, taskWorst}
+use Rattle.program.specs.Tables.{Tables, modeCount, taskSupplier, taskWorst}
 use Rattle.runs.specs.Windows.{windowCount, winSupplier, winMode, winFrom, winTo}
-use Rattle.runs.specs.Round.{Choice, Good, Fair, worstCase, Break, none, outside, late, FirstBreak}
+use Rattle.runs.specs.Round.{Choice, Good, Fair, worstCase, Break, outside, late, FirstBreak}
 use Rattle.suppliers.specs.Windows.{windowsVerdict}
 use Rattle.suppliers.specs.Supplier.{Asked, supplierOf, courseOf, nothing, windowedOf, partVerdict, supplierVerdict}
-use Rattle.suppliers.specs.declared.Answer.{Answer}
 
 -- Program and windows accepted, the part well-formed (1 to 13 do not apply): accepted exactly when, in every mode, reached or
 -- not, and for every choice of an execution time from 1 to the worst case for every release, every tick in which the supplier

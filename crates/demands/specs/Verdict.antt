@@ -3,9 +3,7 @@
 -- Proved of these definitions in proofs/Verdict.antt. Assumes nothing.
 use Prim.Native.Nat.{ℕ, _*_, _≤_, _<_}
 use mathlib.Core.Path.{_≡_}
-use mathlib.Core.List.{List, []}
 use mathlib.Core.Logic.{_↔_}
-use lib.IntN.{ℤ}
 use lib.ListN.{length, take, drop}
 use Rattle.theory.specs.Verdict.{First, Keep}
 use Rattle.cells.specs.Reading.{noReading, Inside, Values}

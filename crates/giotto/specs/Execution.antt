@@ -1,12 +1,11 @@
 -- An execution of a program: the configuration at every tick, and so the value of every port at every tick.
 -- Ports keep their values between instants. Assumes nothing.
-use Prim.Native.Nat.{ℕ, zero, suc, _≤_, _<_}
-use mathlib.Core.Bool.{Bool, true, false}
+use Prim.Native.Nat.{ℕ, zero, suc}
+use mathlib.Core.Bool.{true, false}
 use mathlib.Core.List.{List, []}
 use lib.Dec.{eqb}
 use lib.IntN.{ℤ}
 use Rattle.program.specs.Program.{Program}
-use Rattle.program.specs.Ports.{valueOf}
 use Rattle.giotto.specs.Instant.{Configuration, instant, released, Function, results}
 
 module _ (P : Program) (F : Function) where

@@ -1,10 +1,9 @@
 -- One instant of Giotto, after 001, section 3.2, bounded as in document 01: no machine, no code, no schedule.
 -- Assumes nothing.
-use Prim.Native.Nat.{ℕ, zero, suc, _+_}
+use Prim.Native.Nat.{ℕ, _+_}
 use mathlib.Core.Bool.{Bool, true, false, not, _&&_, _||_}
 use mathlib.Core.List.{List, [], _∷_, map}
 use mathlib.Core.Option.{Option, none, some}
-use lib.Dec.{eqb}
 use lib.IntN.{ℤ}
 use Rattle.theory.specs.Lists.{keep, gather, member, puts}
 use Rattle.program.specs.Guard.{holds}

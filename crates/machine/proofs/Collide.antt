@@ -13,7 +13,7 @@ use Rattle.cells.specs.Limits.{suppliers}
 use Rattle.program.specs.Program.{Program}
 use Rattle.runs.specs.Tick.{Act, rest, run, runs}
 use Rattle.machine.specs.declared.State.{State}
-use Rattle.machine.specs.Instant.{Outcome, ok, stop}
+use Rattle.machine.specs.Instant.{stop}
 use Rattle.machine.specs.Schedules.{Who, nobody, one, several, join, whoRuns, actOf, running, Collision, ticked, tick}
 use Rattle.machine.proofs.Outcomes.{ok-not-stop, stopped, not-nobody, not-one}
 

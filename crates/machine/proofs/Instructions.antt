@@ -2,7 +2,7 @@
 -- Assumes nothing.
 use Prim.Native.Nat.{ℕ, _+_, _-_, _≤_, _<_}
 use mathlib.Core.Path.{_≡_, refl, ap}
-use mathlib.Core.Bool.{Bool, true, false, not}
+use mathlib.Core.Bool.{Bool, true, false}
 use mathlib.Core.List.{List}
 use mathlib.Core.Logic.{_⊎_, inl, inr}
 use native.Mathlib.Omega.{arith}
@@ -11,7 +11,7 @@ use lib.IntN.{ℤ}
 use borrow.Author.Tests.{lt-ltb, le-ltb}
 use Rattle.theory.specs.Claim.{Says}
 use Rattle.theory.specs.Lists.{member}
-use Rattle.theory.proofs.Bools.{clash, says-le, says-or, says-and, says-not, says-as, says-itself, says-false, says-never}
+use Rattle.theory.proofs.Bools.{clash, says-le, says-or, says-not, says-as, says-itself, says-false, says-never}
 use Rattle.cells.specs.Cell.{numAt}
 use Rattle.cells.specs.Limits.{maxDelay, firstOutputCall, firstSensorCall}
 use Rattle.program.specs.Program.{Program, task}

@@ -1,11 +1,11 @@
 -- The cases of an outcome, and of who runs, are told apart.
 -- Assumes nothing.
 use Prim.Native.Nat.{ℕ}
-use mathlib.Core.Path.{_≡_, subst, ap}
+use mathlib.Core.Path.{_≡_}
 use native.Mathlib.Omega.{arith}
 use Rattle.machine.specs.declared.State.{State}
-use Rattle.machine.specs.Instant.{Outcome, ok, stop}
-use Rattle.machine.specs.Schedules.{Who, nobody, one, several}
+use Rattle.machine.specs.Instant.{ok, stop}
+use Rattle.machine.specs.Schedules.{nobody, one, several}
 
 pub ok-not-stop : {s : State} {n : ℕ} → ok s ≡ stop n → ⊥
 ok-not-stop e = let z : _≡_ {A = ℕ} 0 1 = cc in omega arith

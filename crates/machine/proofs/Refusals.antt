@@ -1,7 +1,7 @@
 -- A refusal returns its number, and the state is as before; no step is refused with 0.
 -- Assumes nothing.
 use Prim.Native.Nat.{ℕ, zero, suc, _≤_, _<_}
-use mathlib.Core.Path.{_≡_, refl, sym, ap, subst, _∙_}
+use mathlib.Core.Path.{_≡_, refl, _∙_}
 use mathlib.Core.List.{List}
 use mathlib.Core.Logic.{_⊎_, inl, inr}
 use native.Mathlib.Omega.{arith}
@@ -14,7 +14,7 @@ use Rattle.machine.specs.declared.Advanced.{Advanced}
 use Rattle.machine.specs.Instant.{Outcome, ok, stop, instant, startAt, RefusedAt, Spent}
 use Rattle.machine.specs.Schedules.{tick}
 use Rattle.machine.specs.Advance.{Lent, Advance, advanceVerdict, ready, step, answer, advanceAnswer}
-use Rattle.machine.proofs.Outcomes.{ok-not-stop, stopped}
+use Rattle.machine.proofs.Outcomes.{ok-not-stop}
 use Rattle.machine.proofs.Collide.{tick-refused}
 use Rattle.machine.proofs.Instants.{instant-stops}
 

@@ -1,15 +1,15 @@
 -- One instruction of E code: when it is faulty (19), lent a bad time (16), or ends or releases a task that is still running
 -- (17), in that order; and what it does otherwise. Each condition as a test and as a claim. Assumes nothing.
-use Prim.Native.Nat.{ℕ, zero, suc, _+_, _-_, _≤_, _<_}
+use Prim.Native.Nat.{ℕ, suc, _-_, _≤_}
 use mathlib.Core.Path.{_≡_}
-use mathlib.Core.Bool.{Bool, true, false, not, _&&_, _||_}
+use mathlib.Core.Bool.{Bool, true, false, not, _||_}
 use mathlib.Core.List.{List, [], _∷_}
 use mathlib.Core.Logic.{_⊎_}
 use lib.Dec.{ltb, leb}
-use lib.IntN.{ℤ, pos}
-use lib.ListN.{length, set, getD, replicate}
+use lib.IntN.{ℤ}
+use lib.ListN.{length, set, replicate}
 use Rattle.theory.specs.Lists.{member, puts}
-use Rattle.theory.specs.Verdict.{Refusal, verdict}
+use Rattle.theory.specs.Verdict.{Refusal}
 use Rattle.cells.specs.Cell.{numAt}
 use Rattle.cells.specs.Limits.{suppliers, maxDelay, firstOutputCall, firstSensorCall}
 use Rattle.program.specs.Guard.{holds}

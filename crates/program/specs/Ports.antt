@@ -1,13 +1,13 @@
 -- Port values, as a list of the 64 ports; what a driver and a task's outputs do to them.
 -- Assumes nothing.
 use Prim.Native.Nat.{ℕ}
-use mathlib.Core.Bool.{Bool, true, false}
-use mathlib.Core.List.{List, [], _∷_, _++_, map}
+use mathlib.Core.Bool.{true, false}
+use mathlib.Core.List.{List, [], map}
 use lib.IntN.{ℤ, pos}
 use lib.ListN.{getD}
 use Rattle.theory.specs.Lists.{gather, Put, puts}
 use Rattle.program.specs.Guard.{holds}
-use Rattle.program.specs.Program.{Copy, Driver}
+use Rattle.program.specs.Program.{Driver}
 
 -- the value of a port
 abbrev pub valueOf : List ℤ → ℕ → ℤ

@@ -1,15 +1,15 @@
 -- A program as 001 has it (section 3.1), decoded from its tables: tasks, drivers and modes with their parts.
 -- Every list is in table order. Assumes nothing.
 use Prim.Native.Nat.{ℕ, suc, _/_}
-use mathlib.Core.Bool.{Bool, true, false, _&&_}
-use mathlib.Core.List.{List, [], _∷_, _++_, map}
+use mathlib.Core.Bool.{true, false, _&&_}
+use mathlib.Core.List.{List, [], map}
 use lib.Dec.{eqb}
-use lib.IntN.{ℤ, pos}
+use lib.IntN.{ℤ}
 use lib.ListN.{getD}
-use Rattle.theory.specs.Lists.{those, each, keep, Put, puts}
+use Rattle.theory.specs.Lists.{those, each, keep}
 use Rattle.cells.specs.Limits.{maxPorts}
 use Rattle.program.specs.Tables.{Tables, startMode, portCount, portFirst, sensor, input, output, taskCount, taskSupplier, taskWorst, taskPortCount, tpTask, tpPort, driverCount, copyCount, copyDriver, copySource, copyDestination, modeCount, modePeriod, modePortCount, mpMode, mpPort, invocationCount, invMode, invFrequency, invTask, invDriver, updateCount, updMode, updFrequency, updDriver, switchCount, swMode, swFrequency, swTarget, swDriver}
-use Rattle.program.specs.Guard.{Guard, always, guardOf, holds}
+use Rattle.program.specs.Guard.{Guard, always, guardOf}
 use Rattle.program.specs.Sets.{isKind}
 use Rattle.program.specs.Units.{units, due}
 

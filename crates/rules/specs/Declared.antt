@@ -1,9 +1,8 @@
 -- Numbers 3, 4 and 5: task ports, copies and mode ports, each tested against the rows before it.
 -- Assumes nothing.
-use Prim.Native.Nat.{ℕ, _≤_, _<_}
+use Prim.Native.Nat.{ℕ, _<_}
 use mathlib.Core.Path.{_≡_}
 use mathlib.Core.Bool.{Bool, not, _&&_, _||_}
-use mathlib.Core.Logic.{_⊎_}
 use lib.Dec.{eqb}
 use Rattle.theory.specs.Search.{any}
 use Rattle.program.specs.Tables.{Tables, sensor, actuator, input, output, taskPortCount, tpTask, tpPort, copyCount, copyDriver, copyDestination, modePortCount, mpMode, mpPort}

@@ -1,13 +1,13 @@
 -- Numbers 6, 7 and 8: invocations, updates and switches, each row with the ports of its driver and against the rows before it.
 -- The claims are those of 001, section 3.1, point 4 (a), (b), (c). Assumes nothing.
-use Prim.Native.Nat.{ℕ, _≤_, _<_}
+use Prim.Native.Nat.{ℕ, _<_}
 use mathlib.Core.Path.{_≡_}
 use mathlib.Core.Bool.{Bool, not, _&&_, _||_}
 use mathlib.Core.Logic.{_⊎_, _↔_}
 use lib.Dec.{eqb}
 use Rattle.theory.specs.Search.{any}
 use Rattle.program.specs.Tables.{Tables, sensor, actuator, input, output, taskPortCount, tpTask, tpPort, guardKind, guardPort, kindAlways, kindInterval, copyCount, copyDriver, copySource, copyDestination, modePortCount, mpMode, mpPort, invocationCount, invMode, invTask, invDriver, updateCount, updMode, updDriver, switchCount, swMode, swTarget, swDriver}
-use Rattle.program.specs.Guard.{always, guardOf, meet, Meet}
+use Rattle.program.specs.Guard.{guardOf, meet, Meet}
 use Rattle.program.specs.Sets.{isKind, isInput, isOutput, isModePort, isDestination, Sensor, Actuator, Input, Output, ModePort, Source, Destination}
 
 -- some output of task t has a property; some input; some port of mode m; some source of driver d; some destination

@@ -5,7 +5,6 @@ use mathlib.Core.Path.{_≡_}
 use mathlib.Core.Bool.{Bool, not, _||_}
 use mathlib.Core.List.{List}
 use lib.Dec.{eqb, ltb}
-use lib.IntN.{ℤ}
 use lib.ListN.{length}
 use Rattle.cells.specs.Limits.{maxPorts, maxTasks, maxTaskPorts, maxDrivers, maxCopies, maxModes, maxModePorts, maxInvocations, maxUpdates, maxSwitches}
 use Rattle.program.specs.Tables.{Tables, portWidth, taskWidth, taskPortWidth, driverWidth, copyWidth, modeWidth, modeCount, modePortWidth, invocationWidth, updateWidth, switchWidth}

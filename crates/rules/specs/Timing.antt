@@ -1,6 +1,6 @@
 -- Numbers 9 and 10: units of a mode, and task frequencies against switch frequencies.
 -- Assumes nothing.
-use Prim.Native.Nat.{ℕ, _%_, _≤_, _<_, _∣_}
+use Prim.Native.Nat.{ℕ, _≤_, _<_, _∣_}
 use mathlib.Core.Path.{_≡_}
 use mathlib.Core.Bool.{Bool, _&&_, _||_}
 use lib.Dec.{eqb, ltb}

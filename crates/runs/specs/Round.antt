@@ -7,7 +7,7 @@ use mathlib.Core.List.{List, [], _∷_}
 use lib.Dec.{leb}
 use lib.ListN.{set}
 use Rattle.theory.specs.Lists.{some, member}
-use Rattle.runs.specs.Tick.{Row, leftOf, Act, runs, Place, doing, tick}
+use Rattle.runs.specs.Tick.{Row, leftOf, runs, Place, doing, tick}
 
 -- what one supplier does in one mode: ticks of a unit and units of the round; by unit its block, the jobs released at the
 -- unit's start and those whose termination instant is its end; by job the worst-case time; by tick of the round its windows

@@ -1,7 +1,7 @@
 -- The schedule table: supplier, E address, kind (0 dispatch, 1 idle), task, timeout.
 -- "The rows at the address of the executed `future` are the block". Assumes nothing.
 use Prim.Native.Nat.{ℕ}
-use mathlib.Core.Bool.{Bool, true, false, _&&_}
+use mathlib.Core.Bool.{true, false, _&&_}
 use mathlib.Core.List.{List}
 use lib.Dec.{eqb}
 use lib.IntN.{ℤ}

@@ -1,6 +1,6 @@
 -- One tick of one supplier's block, after 003. A row is a dispatch of a job or an idle, with a timeout counted from the
 -- block's start; a job is a number, its remaining time stands in a list. Knows no program. Assumes nothing.
-use Prim.Native.Nat.{ℕ, zero, suc, _+_, _-_}
+use Prim.Native.Nat.{ℕ, suc, _+_, _-_}
 use mathlib.Core.Bool.{Bool, true, false, _||_}
 use mathlib.Core.List.{List, [], _∷_}
 use lib.Dec.{leb}

@@ -1,8 +1,8 @@
 -- The text that the shipped program reads: a number a line, the start mode, then for each table from ports to switches its row
 -- count and rows. It is judged from the front: a count outside 0..limit decides at once. Assumes nothing.
 use Prim.Native.Nat.{ℕ, zero, suc, _*_}
-use mathlib.Core.Bool.{Bool, true, false, not}
-use mathlib.Core.List.{List, [], _∷_, _++_}
+use mathlib.Core.Bool.{true, false}
+use mathlib.Core.List.{List, [], _∷_}
 use mathlib.Core.Option.{Option, none, some}
 use lib.Dec.{eqb, leb}
 use lib.IntN.{ℤ, pos, negsuc}

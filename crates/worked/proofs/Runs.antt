@@ -3,15 +3,14 @@
 use Prim.Native.Nat.{ℕ, zero, suc, _<_}
 use mathlib.Core.Path.{_≡_, refl}
 use mathlib.Core.Bool.{true}
-use mathlib.Core.List.{List, [], _∷_}
+use mathlib.Core.List.{[], _∷_}
 use native.Mathlib.Omega.{arith}
-use lib.IntN.{ℤ, pos}
+use lib.IntN.{pos}
 use Rattle.cells.specs.Limits.{suppliers}
 use Rattle.program.specs.Program.{programOf}
 use Rattle.giotto.specs.Execution.{execution}
-use Rattle.suppliers.specs.Windows.{windowsVerdict}
 use Rattle.suppliers.specs.Supplier.{supplierVerdict}
-use Rattle.demands.specs.Composed.{System, Accepted}
+use Rattle.demands.specs.Composed.{Accepted}
 use Rattle.worked.specs.Computed.{computed}
 use Rattle.worked.specs.Systems.{F-system, monitor-system, mix, readings, gaps, times, runsAsGiotto}
 

@@ -6,10 +6,9 @@ use mathlib.Core.List.{List, [], _∷_}
 use lib.IntN.{pos, negsuc}
 use lib.ListN.{length}
 use Rattle.cells.specs.Reading.{noReading, inside}
-use Rattle.program.specs.Tables.{Tables}
 use Rattle.program.specs.Units.{units}
 use Rattle.rules.specs.Verdict.{programVerdict}
-use Rattle.code.specs.Op.{Op, call, schedule, jump, future, return}
+use Rattle.code.specs.Op.{call, schedule, jump, future, return}
 use Rattle.code.specs.Compile.{listingOf}
 use Rattle.suppliers.specs.Supplier.{supplierVerdict}
 use Rattle.suppliers.specs.declared.Answer.{Answer}

@@ -1,7 +1,7 @@
 -- The programs of document 01's worked table. All first values are 0, the start mode is 0. Assumes nothing.
 use Prim.Native.Nat.{ℕ, zero, suc}
 use mathlib.Core.List.{List, [], _∷_, _++_, map}
-use lib.IntN.{ℤ, pos, negsuc}
+use lib.IntN.{ℤ, pos}
 use Rattle.program.specs.Tables.{Tables, tables, sensor, actuator, input, output, kindAlways, kindInterval}
 
 -- a table of numbers that are not negative

@@ -4,7 +4,7 @@ use Prim.Native.Nat.{ℕ, zero, suc, _+_, _*_}
 use mathlib.Core.Bool.{Bool, true, false}
 use mathlib.Core.List.{List, [], _∷_, _++_, map}
 use lib.Dec.{eqb}
-use lib.IntN.{ℤ, pos, negsuc, natAbs}
+use lib.IntN.{ℤ, pos, natAbs}
 use lib.ListN.{replicate}
 use Rattle.cells.specs.Cell.{eqZ}
 use Rattle.cells.specs.Reading.{noReading}
@@ -13,7 +13,6 @@ use Rattle.program.specs.Program.{programOf}
 use Rattle.giotto.specs.Instant.{Configuration, Function}
 use Rattle.giotto.specs.Execution.{initial, pass}
 use Rattle.machine.specs.declared.State.{State}
-use Rattle.machine.specs.declared.Advanced.{Advanced}
 use Rattle.machine.specs.Advance.{freshAnswer}
 use Rattle.demands.specs.Composed.{System, advanced}
 use Rattle.demands.specs.Supplied.{lentTo}
