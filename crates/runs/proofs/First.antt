@@ -13,7 +13,7 @@ use borrow.Author.Tests.{leb-true, leb-false}
 use Rattle.theory.specs.Lists.{member}
 use Rattle.theory.proofs.Bools.{clash}
 use Rattle.runs.specs.Tick.{leftOf, runs, Place, doing}
-use Rattle.runs.specs.Round.{Course, Choice, begin, going, before, alone, Good, Break, none, outside, late, Ticked, ended, left-at, ticks, unfinished, judge, OutsideAt, LateAt, FirstBreak}
+use Rattle.runs.specs.Round.{Course, Choice, begin, going, before, alone, Good, Break, none, outside, late, Ticked, ended, left-at, watched, unfinished, judge, OutsideAt, LateAt, FirstBreak}
 use Rattle.runs.proofs.Members.{some-one, none-of}
 use Rattle.runs.proofs.Ticks.{In, Comes, ticks-come}
 
@@ -76,7 +76,7 @@ module _ (C : Course) (c : Choice) (left : List ℕ) where
   unfolding Until
   judge-from zero k q h = record { inside = λ i e l. h .inside i e (omega arith); ends = λ i j l. h .ends i j (omega arith) }
   judge-from (suc u) k q h =
-      go (ticks (C .window) (C .block k) (C .ticks) 0 (k * C .ticks) s₀)
+      go (watched (C .window) (C .block k) (C .ticks) 0 (k * C .ticks) s₀)
       (ticks-come (C .window) (C .block k) s₀ (k * C .ticks) (C .ticks) 0 (k * C .ticks) (omega arith)) (judge-from u (suc k) (omega arith))
     where
       s₀ : Place

@@ -6,7 +6,7 @@ use mathlib.Core.Bool.{true, false}
 use mathlib.Core.List.{List, [], _∷_}
 use lib.ListN.{set}
 use Rattle.theory.specs.Lists.{member}
-use Rattle.runs.specs.Round.{Course, Choice, release, outside, late, ended, left-at, ticks, unfinished, judge}
+use Rattle.runs.specs.Round.{Course, Choice, release, outside, late, ended, left-at, watched, unfinished, judge}
 use Rattle.runs.proofs.Members.{member-head, member-tail}
 
 -- a release uses the times of its jobs alone
@@ -32,7 +32,7 @@ judge-same C D s c d h zero k left = refl
 judge-same C D s c d h (suc u) k left =
     let q : release (C .released k) (c k) left ≡ release (D .released k) (d k) left =
     release-same (C .released k) (c k) (d k) (h k) left ∙ ap (λ r. release (r k) (d k) left) (s .released) in
-    λ i. elim (ticks (s .window i) (s .block i k) (s .ticks i) 0 (k * s .ticks i) (record { position = 0; left = q i })) [
+    λ i. elim (watched (s .window i) (s .block i k) (s .ticks i) 0 (k * s .ticks i) (record { position = 0; left = q i })) [
       | left-at t ↦ outside t
       | ended r ↦ elim (unfinished (s .ending i k) r) [ true ↦ late (suc k * s .ticks i) | false ↦ judge-same C D s c d h u (suc k) r i ]
     ]

@@ -8,7 +8,7 @@ use native.Mathlib.Omega.{arith}
 use native.Mathlib.Decide.{ℕ-discrete}
 use Rattle.theory.proofs.Bools.{clash}
 use Rattle.runs.specs.Tick.{Row, runs, Place, doing}
-use Rattle.runs.specs.Round.{going, Ticked, ended, left-at, ticks}
+use Rattle.runs.specs.Round.{going, Ticked, ended, left-at, watched}
 
 -- a unit that begins at s, at tick o of the round
 module _ (window : ℕ → Bool) (block : List Row) (s : Place) (o : ℕ) where
@@ -39,13 +39,13 @@ module _ (window : ℕ → Bool) (block : List Row) (s : Place) (o : ℕ) where
       go y l m (no q) = h .5 y (omega arith) m
 
   -- n ticks from tick e come to their end inside, or to the first tick that is outside
-  pub ticks-come : (n e t : ℕ) → t ≡ o + e → Comes n e (ticks window block n e t (going block s e))
+  pub ticks-come : (n e t : ℕ) → t ≡ o + e → Comes n e (watched window block n e t (going block s e))
   ticks-come zero e t q = let z : e ≡ e + 0 = omega arith in (ap (λ m. going block s m .left) z, λ x l m. absurd (omega arith))
   ticks-come (suc n) e t q = go (runs (doing block e (going block s e))) refl (window t) refl (ticks-come n (suc e) (suc t) (omega arith))
     where
       go : (a : Bool) → runs (doing block e (going block s e)) ≡ a → (b : Bool) → window t ≡ b
-          → Comes n (suc e) (ticks window block n (suc e) (suc t) (going block s (suc e)))
-          → Comes (suc n) e (elim (a && not b) [ true ↦ left-at t | false ↦ ticks window block n (suc e) (suc t) (going block s (suc e)) ])
-      go true p true w i = one-more n e (λ h. rw q at w) (ticks window block n (suc e) (suc t) (going block s (suc e))) i
+          → Comes n (suc e) (watched window block n (suc e) (suc t) (going block s (suc e)))
+          → Comes (suc n) e (elim (a && not b) [ true ↦ left-at t | false ↦ watched window block n (suc e) (suc t) (going block s (suc e)) ])
+      go true p true w i = one-more n e (λ h. rw q at w) (watched window block n (suc e) (suc t) (going block s (suc e))) i
       go true p false w i = (e, omega arith, q, p, w, λ y l m. absurd (omega arith))
-      go false p b w i = one-more n e (λ h. clash h p) (ticks window block n (suc e) (suc t) (going block s (suc e))) i
+      go false p b w i = one-more n e (λ h. clash h p) (watched window block n (suc e) (suc t) (going block s (suc e))) i

@@ -70,16 +70,17 @@ pub data Break : Type 0 where
   outside : ℕ → Break
   late : ℕ → Break
 
--- n ticks of a block, e of the unit and t of the round have gone by: its remaining times, or the tick that is outside
+-- what n ticks of a block come to: the remaining times after them, or the first tick that runs outside the windows
 pub data Ticked : Type 0 where
   ended : List ℕ → Ticked
   left-at : ℕ → Ticked
 
-abbrev pub ticks : (ℕ → Bool) → List Row → ℕ → ℕ → ℕ → Place → Ticked
-ticks window block zero e t s = ended (s .left)
-ticks window block (suc n) e t s = elim (runs (doing block e s) && not (window t)) [
+-- (e ticks of the unit and t of the round have gone by before them)
+abbrev pub watched : (ℕ → Bool) → List Row → ℕ → ℕ → ℕ → Place → Ticked
+watched window block zero e t s = ended (s .left)
+watched window block (suc n) e t s = elim (runs (doing block e s) && not (window t)) [
   | true ↦ left-at t
-  | false ↦ ticks window block n (suc e) (suc t) (tick block e s)
+  | false ↦ watched window block n (suc e) (suc t) (tick block e s)
 ]
 
 -- some of these jobs is unfinished
@@ -89,7 +90,7 @@ unfinished js left = some (λ j. leb 1 (leftOf left j)) js
 -- u units are left, from unit k on: "at one tick 15 is found before 14"
 abbrev pub judge : Course → Choice → ℕ → ℕ → List ℕ → Break
 judge C c zero k left = none
-judge C c (suc u) k left = elim (ticks (C .window) (C .block k) (C .ticks) 0 (k * C .ticks) (begin C c k left)) [
+judge C c (suc u) k left = elim (watched (C .window) (C .block k) (C .ticks) 0 (k * C .ticks) (begin C c k left)) [
   | left-at t ↦ outside t
   | ended r ↦ elim (unfinished (C .ending k) r) [ true ↦ late (suc k * C .ticks) | false ↦ judge C c u (suc k) r ]
 ]
