@@ -11,10 +11,14 @@ use lib.ListN.{getD, length}
 abbrev pub cellAt : List ℤ → ℕ → ℤ
 cellAt t i = getD t i (pos 0)
 
--- a number that counts or names; a negative one is 2147483648, which is out of every range
+-- no range of document 01 reaches so far
+abbrev pub outOfRange : ℕ
+outOfRange = 2147483648
+
+-- a number that counts or names; a negative one is out of every range
 abbrev pub indexOf : ℤ → ℕ
 indexOf (pos n) = n
-indexOf (negsuc n) = 2147483648
+indexOf (negsuc n) = outOfRange
 
 -- names nothing
 abbrev pub unnamed : ℕ

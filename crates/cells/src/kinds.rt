@@ -2,7 +2,9 @@
 ghost use mathlib.Core.Path.{_≡_};
 ghost use Rattle.cells.specs.Cell.{nameOf};
 
-// 255 names nothing: every table has fewer rows.
+// Names nothing: every table has fewer rows.
+pub const UNNAMED: usize = 255;
+
 pub struct Port(pub u8);
 
 pub struct Task(pub u8);
@@ -11,14 +13,14 @@ pub struct Driver(pub u8);
 
 pub struct Mode(pub u8);
 
-// A number as one byte: above 254 it is 255.
+// A number as one byte; a larger one names nothing.
 pub fn name(n: usize) -> u8
     ensures { λ r. ⌜ r ≡ nameOf n ⌝ }
 {
-    if n < 255 {
+    if n < UNNAMED {
         return n as u8;
     }
-    255
+    UNNAMED as u8
 }
 
 impl Port {

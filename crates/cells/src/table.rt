@@ -16,12 +16,15 @@ pub fn value(t: &[i32], at: usize) -> i32
     0
 }
 
+// No range of document 01 reaches so far.
+pub const OUT_OF_RANGE: usize = 2147483648;
+
 // A number that counts or names; a negative one is out of every range.
 pub fn index(x: i32) -> usize
     ensures { λ r. ⌜ r ≡ indexOf x ⌝ }
 {
     if x < 0 {
-        return 2147483648;
+        return OUT_OF_RANGE;
     }
     x as usize
 }

@@ -1,5 +1,6 @@
 -- The laws of what specs/ defines: how tests meet claims, what a search finds, what lists and assignments hold, which number is the first.
 pub mod Bools
+pub mod Conditions
 pub mod Search
 pub mod Lists
 pub mod Members
