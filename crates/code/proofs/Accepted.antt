@@ -18,7 +18,7 @@ use Rattle.rules.specs.Verdict.{programVerdict}
 use Rattle.rules.proofs.Accepted.{accepted-fields, accepted-least}
 use Rattle.code.specs.Listing.{lengthRule}
 use Rattle.code.specs.Compile.{listingOf}
-use Rattle.code.proofs.Length.{WholeMode, Whole, length-rule}
+use Rattle.code.proofs.Length.{WholeMode, WholeUnits, length-rule}
 use Rattle.code.proofs.Inside.{Aims, Below, listing-inside}
 
 -- a row of the modes is whole where its units are a multiple of each of its frequencies
@@ -33,7 +33,7 @@ whole-row T m w =
 
 module _ (T : Tables) (a : programVerdict T ≡ 0) where
   -- the modes of an accepted program are whole
-  pub accepted-modes : Whole (programOf T)
+  pub accepted-modes : WholeUnits (programOf T)
   accepted-modes m h =
       let l : m < modeCount T = omega (arith, mode-count T) in
       subst WholeMode (sym (mode-row T m l)) (whole-row T m (accepted-least T a m l .multiple))

@@ -9,7 +9,7 @@ use Rattle.theory.proofs.Lists.{every-keep, every-all, every-image, every-appen
 use Rattle.program.specs.Program.{Program, Mode, Switch, mode, nextUnit, enteredUnit, dueInvocations, dueUpdates, dueSwitches, dueTasks}
 use Rattle.program.proofs.Decoded.{next-below}
 use Rattle.code.specs.Op.{Op, call, schedule, branch, jump, future, return, faulty}
-use Rattle.code.specs.Listing.{blockAddress, entryAddress, futureAddress, callDriver, callOutput, callSensor, headOf, testsOf, bodyOf, endOf, stubsOf, blockOf, modeCode, listing}
+use Rattle.code.specs.Listing.{blockAddress, entryAddress, futureAddress, callDriver, callOutput, callSensor, headOf, testsOf, bodyOf, endOf, stubsOf, blockCode, modeCode, listing}
 use Rattle.code.proofs.Place.{block-within}
 
 -- what a program's names aim at is there
@@ -65,7 +65,7 @@ module _ (P : Program) (o : Aims P) where
       (tt, (entry-inside P (w .target) (enteredUnit k w) (h .0) (o .units (w .target) (h .0)), stubs-inside k ws (h .1)))
 
   -- every address that a block names
-  all-inside : (m k : ℕ) → m < length (P .modes) → k < mode P m .units → Every (Below (length (listing P))) (blockOf P m k)
+  all-inside : (m k : ℕ) → m < length (P .modes) → k < mode P m .units → Every (Below (length (listing P))) (blockCode P m k)
   all-inside m k h l =
       every-append _ (headOf P M k) _ (head-inside P M k n)
       (every-append _ (testsOf ws (2 + futureAddress P m k)) _ (tests-inside n ws (2 + futureAddress P m k) (omega (arith, block-within P m k h l)))
@@ -88,7 +88,7 @@ module _ (P : Program) (o : Aims P) where
   listing-inside = (
     block-inside P (P .start) 0 (o .start) (o .units (P .start) (o .start)),
     every-cat (Below (length (listing P))) (modeCode P) (length (P .modes))
-        (λ m h. every-cat (Below (length (listing P))) (blockOf P m) (mode P m .units) (λ k l. all-inside m k h l)),
+        (λ m h. every-cat (Below (length (listing P))) (blockCode P m) (mode P m .units) (λ k l. all-inside m k h l)),
   )
 
   -- so does the one that the instruction at any place names

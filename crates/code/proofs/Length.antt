@@ -10,7 +10,7 @@ use Rattle.theory.proofs.Lists.{bit, sum-same, sum-add, sum-const, sum-zero, ca
 use Rattle.theory.proofs.Due.{due-times}
 use Rattle.program.specs.Units.{due}
 use Rattle.program.specs.Program.{Program, Mode, Invocation, Update, Switch, mode, dueInvocations, dueUpdates, dueSwitches}
-use Rattle.code.specs.Listing.{headSize, blockSize, modeSize, modeAddress, headOf, testsOf, bodyOf, stubsOf, blockOf, modeCode, listing, frequencies, modeLength, lengthRule}
+use Rattle.code.specs.Listing.{headSize, blockSize, modeSize, modeAddress, headOf, testsOf, bodyOf, stubsOf, blockCode, modeCode, listing, frequencies, modeLength, lengthRule}
 
 -- u units are a multiple of the frequency f
 abbrev pub Fits : ℕ → ℕ → Type 0
@@ -24,8 +24,8 @@ pub record WholeMode (M : Mode) : Type 0 where
   pub switches : Every (λ r. Fits (M .units) (r .frequency)) (M .switches)
 
 -- every declared mode is so
-abbrev pub Whole : Program → Type 0
-Whole P = (m : ℕ) → m < length (P .modes) → WholeMode (mode P m)
+abbrev pub WholeUnits : Program → Type 0
+WholeUnits P = (m : ℕ) → m < length (P .modes) → WholeMode (mode P m)
 
 -- a test for each switch
 pub tests-length : (ws : List Switch) (a : ℕ) → length (testsOf ws a) ≡ length ws
@@ -46,12 +46,12 @@ pub body-length : (M : Mode) (k : ℕ) → length (bodyOf M k) ≡ 2 * length (d
 body-length M k = simp (length-append, length-map) (omega arith)
 
 -- a block is as long as its size says
-pub block-length : (P : Program) (m k : ℕ) → length (blockOf P m k) ≡ blockSize P (mode P m) k
+pub block-length : (P : Program) (m k : ℕ) → length (blockCode P m k) ≡ blockSize P (mode P m) k
 block-length P m k = simp (length-append, length-map, tests-length, stubs-length) (omega arith)
 
 -- so is a mode
 pub mode-length : (P : Program) (m : ℕ) → length (modeCode P m) ≡ modeSize P (mode P m)
-mode-length P m = cat-length (blockOf P m) (blockSize P (mode P m)) (mode P m .units) (λ k l. block-length P m k)
+mode-length P m = cat-length (blockCode P m) (blockSize P (mode P m)) (mode P m .units) (λ k l. block-length P m k)
 
 -- the listing ends where one mode more would begin
 pub listing-length : (P : Program) → length (listing P) ≡ modeAddress P (length (P .modes))
@@ -98,7 +98,7 @@ mode-rule P M o =
     w k = length (dueSwitches M k)
 
 -- the length rule: "1 plus, per mode, 3 × the sum of task and switch frequencies + the sum of update frequencies + units × (sensors + 2)"
-pub length-rule : (P : Program) → Whole P → length (listing P) ≡ lengthRule P
+pub length-rule : (P : Program) → WholeUnits P → length (listing P) ≡ lengthRule P
 length-rule P o =
     omega (
       arith,

@@ -11,7 +11,7 @@ use Rattle.theory.specs.Lists.{cat}
 use Rattle.theory.proofs.Lists.{sum-apart, cat-length}
 use Rattle.program.specs.Program.{Program, Switch, mode, ticksOf, nextUnit, dueSwitches}
 use Rattle.code.specs.Op.{Op, jump, future, faulty}
-use Rattle.code.specs.Listing.{headSize, blockSize, modeSize, modeAddress, blockAddress, entryAddress, futureAddress, headOf, testsOf, bodyOf, endOf, stubsOf, blockOf, modeCode, listing}
+use Rattle.code.specs.Listing.{headSize, blockSize, modeSize, modeAddress, blockAddress, entryAddress, futureAddress, headOf, testsOf, bodyOf, endOf, stubsOf, blockCode, modeCode, listing}
 use Rattle.code.specs.Compile.{futureDelay, delayAt}
 use Rattle.code.proofs.Length.{tests-length, head-length, body-length, block-length, mode-length}
 use Rattle.code.proofs.At.{At, at-left, at-right, at-tail, at-move, at-within, at-cat, fetch-at}
@@ -28,10 +28,10 @@ mode-at P m h =
     (at-cat (modeCode P) (length (P .modes)) m h (at-tail (start-at P)))
 
 -- so does each of its blocks
-pub block-at : (P : Program) (m k : ℕ) → m < length (P .modes) → k < mode P m .units → At (listing P) (blockAddress P m k) (blockOf P m k)
+pub block-at : (P : Program) (m k : ℕ) → m < length (P .modes) → k < mode P m .units → At (listing P) (blockAddress P m k) (blockCode P m k)
 block-at P m k h l =
-    at-move (blockAddress P m k) (omega (arith, cat-length (blockOf P m) (blockSize P (mode P m)) k (λ j q. block-length P m j)))
-    (at-cat (blockOf P m) (mode P m .units) k l (mode-at P m h))
+    at-move (blockAddress P m k) (omega (arith, cat-length (blockCode P m) (blockSize P (mode P m)) k (λ j q. block-length P m j)))
+    (at-cat (blockCode P m) (mode P m .units) k l (mode-at P m h))
 
 -- the parts of a block at their addresses
 pub record Placed (P : Program) (m k : ℕ) : Type 0 where
@@ -63,7 +63,7 @@ placed P m k h l = record {
     bd : List Op
     bd = bodyOf (mode P m) k
 
-    b₀ : At (listing P) (blockAddress P m k) (blockOf P m k)
+    b₀ : At (listing P) (blockAddress P m k) (blockCode P m k)
     b₀ = block-at P m k h l
 
     b₁ : At (listing P) (blockAddress P m k + headSize P (mode P m) k) (ts ++ (bd ++ (endOf P m k ++ stubsOf P k ws)))

@@ -67,8 +67,8 @@ abbrev pub stubsOf : Program → ℕ → List Switch → List Op
 stubsOf P k [] = []
 stubsOf P k (w ∷ ws) = callDriver (w .driver) ∷ jump (entryAddress P (w .target) (enteredUnit k w)) ∷ stubsOf P k ws
 
-abbrev pub blockOf : Program → ℕ → ℕ → List Op
-blockOf P m k =
+abbrev pub blockCode : Program → ℕ → ℕ → List Op
+blockCode P m k =
     headOf P (mode P m) k
     ++ (testsOf (dueSwitches (mode P m) k) (2 + futureAddress P m k)
     ++ (bodyOf (mode P m) k
@@ -76,7 +76,7 @@ blockOf P m k =
     ++ stubsOf P k (dueSwitches (mode P m) k))))
 
 abbrev pub modeCode : Program → ℕ → List Op
-modeCode P m = cat (blockOf P m) (mode P m .units)
+modeCode P m = cat (blockCode P m) (mode P m .units)
 
 unfoldable pub listing : Program → List Op
 listing P = jump (blockAddress P (P .start) 0) ∷ cat (modeCode P) (length (P .modes))

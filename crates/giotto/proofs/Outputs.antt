@@ -13,7 +13,7 @@ use Rattle.theory.proofs.Members.{Has, has-keep, has-gather}
 use Rattle.theory.proofs.Puts.{Wrote, Assigns}
 use Rattle.cells.specs.Limits.{maxPorts}
 use Rattle.program.specs.Tables.{Tables, output, taskCount, modeCount, invTask}
-use Rattle.program.specs.Sets.{Kind, Output}
+use Rattle.program.specs.Sets.{OfKind, Output}
 use Rattle.program.specs.Program.{taskRow, programOf, task, mode, dueTasks}
 use Rattle.program.specs.Ports.{valueOf, takes}
 use Rattle.program.proofs.Decoded.{task-row, has-ports}
@@ -69,11 +69,11 @@ module _ (T : Tables) (result : ℕ → ℕ → ℤ) where
       let r = has-ports T (λ q. (q ≡ p) × (x ≡ result t q)) output t in (
         λ h.
             let w = r .0 (s .0 h) in
-            ((subst (Kind T output) (w .3 .0) (w .2 .1), (w .0, w .1, (w .2 .0, w .3 .0))), w .3 .1 ∙ ap (result t) (w .3 .0)),
+            ((subst (OfKind T output) (w .3 .0) (w .2 .1), (w .0, w .1, (w .2 .0, w .3 .0))), w .3 .1 ∙ ap (result t) (w .3 .0)),
         λ w. s .1 (r .1 (
           w .0 .1 .0,
           w .0 .1 .1,
-          (w .0 .1 .2 .0, subst (Kind T output) (sym (w .0 .1 .2 .1)) (w .0 .0)),
+          (w .0 .1 .2 .0, subst (OfKind T output) (sym (w .0 .1 .2 .1)) (w .0 .0)),
           (w .0 .1 .2 .1, w .1 ∙ ap (result t) (sym (w .0 .1 .2 .1))),
         )),
       )

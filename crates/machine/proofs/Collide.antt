@@ -14,7 +14,7 @@ use Rattle.program.specs.Program.{Program}
 use Rattle.runs.specs.Tick.{Act, rest, run, runs}
 use Rattle.machine.specs.declared.State.{State}
 use Rattle.machine.specs.Instant.{stop}
-use Rattle.machine.specs.Schedules.{Who, nobody, one, several, join, whoRuns, actOf, running, Collision, ticked, tick}
+use Rattle.machine.specs.Schedules.{Who, nobody, one, several, join, whoRuns, actOf, running, Collision, ticked, tickAll}
 use Rattle.machine.proofs.Outcomes.{ok-not-stop, stopped, not-nobody, not-one}
 
 -- what is known of the suppliers below n when so many of them run
@@ -66,7 +66,7 @@ collides S s = (there, λ c. two-are-several (actOf S s) suppliers (c .one-suppl
         record { one-supplier = k .0; other-supplier = k .1; apart = k .2; in-range = k .3; one-runs = k .4; other-runs = k .5 }
 
 -- and a tick is refused, with 18, exactly then
-pub tick-refused : (P : Program) (S results : List ℤ) (s : State) (n : ℕ) → (tick P S results s ≡ stop n) ↔ ((n ≡ 18) × Collision S s)
+pub tick-refused : (P : Program) (S results : List ℤ) (s : State) (n : ℕ) → (tickAll P S results s ≡ stop n) ↔ ((n ≡ 18) × Collision S s)
 tick-refused P S results s n = go (running S s) refl
   where
     go : (w : Who) → running S s ≡ w → (ticked P S results s w ≡ stop n) ↔ ((n ≡ 18) × Collision S s)

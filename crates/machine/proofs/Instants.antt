@@ -13,8 +13,8 @@ use borrow.Author.Tests.{ltb-true, ltb-false, lt-ltb, le-ltb}
 use Rattle.program.specs.Program.{Program}
 use Rattle.code.specs.Op.{Op}
 use Rattle.machine.specs.declared.State.{State}
-use Rattle.machine.specs.Instruction.{At, does}
-use Rattle.machine.specs.Instant.{Outcome, ok, stop, isReturn, fetch, refusalAt, run, startAt, instant, Goes, Ends, RefusedAt, Spent}
+use Rattle.machine.specs.Instruction.{At, executes}
+use Rattle.machine.specs.Instant.{Outcome, ok, stop, isReturn, fetch, refusalAt, run, startAt, runInstant, Goes, Ends, RefusedAt, Spent}
 
 module _ (P : Program) (readings times : List ℤ) (code : List Op) where
   -- what one run comes to, with its claim
@@ -24,7 +24,7 @@ module _ (P : Program) (readings times : List ℤ) (code : List Op) where
 
   -- one instruction more at the front
   further : (count : ℕ) (a : At) → refusalAt P readings times code a ≡ 0 → isReturn (fetch P readings times code a) ≡ false
-      → (o : Outcome) → Claim count (does P readings times (fetch P readings times code a) a) o → Claim (suc count) a o
+      → (o : Outcome) → Claim count (executes P readings times (fetch P readings times code a) a) o → Claim (suc count) a o
   further count a r n (ok s) c = record {
     before = suc (c .before);
     last = c .last;
@@ -52,10 +52,10 @@ module _ (P : Program) (readings times : List ℤ) (code : List Op) where
       go true e = inr (record { last = a; goes = refl; spent = inl (ltb-true (a .address) (length code) e, refl) })
       go false e = inr (record { last = a; goes = refl; spent = inr (ltb-false (a .address) (length code) e, refl) })
   comes (suc count) a =
-      go (refusalAt P readings times code a) refl (isReturn (fetch P readings times code a)) refl (comes count (does P readings times (fetch P readings times code a) a))
+      go (refusalAt P readings times code a) refl (isReturn (fetch P readings times code a)) refl (comes count (executes P readings times (fetch P readings times code a) a))
     where
       next : At
-      next = does P readings times (fetch P readings times code a) a
+      next = executes P readings times (fetch P readings times code a) a
 
       go : (r : ℕ) → refusalAt P readings times code a ≡ r → (b : Bool) → isReturn (fetch P readings times code a) ≡ b
           → Claim count next (run P readings times code count next)
@@ -67,7 +67,7 @@ module _ (P : Program) (readings times : List ℤ) (code : List Op) where
 
   -- one instruction that is not refused and no `return`
   passes : (count : ℕ) (a : At) → refusalAt P readings times code a ≡ 0 → isReturn (fetch P readings times code a) ≡ false
-      → run P readings times code (suc count) a ≡ run P readings times code count (does P readings times (fetch P readings times code a) a)
+      → run P readings times code (suc count) a ≡ run P readings times code count (executes P readings times (fetch P readings times code a) a)
   passes count a r e = rw (r, run) (rw e)
 
   -- a stretch of n instructions is followed, and uses up n of the count
@@ -80,7 +80,7 @@ module _ (P : Program) (readings times : List ℤ) (code : List Op) where
   follow (suc n) (suc count) a b l g =
       let z : count - n ≡ suc count - suc n = omega arith in
       passes count a (g .0) (g .1)
-      ∙ follow n count (does P readings times (fetch P readings times code a) a) b (omega arith) (g .2)
+      ∙ follow n count (executes P readings times (fetch P readings times code a) a) b (omega arith) (g .2)
       ∙ ap (λ (c : ℕ). run P readings times code c b) z
 
   at-return : (count : ℕ) (a : At) → refusalAt P readings times code a ≡ 0 → isReturn (fetch P readings times code a) ≡ true → run P readings times code (suc count) a ≡ ok (a .state)
@@ -91,7 +91,7 @@ module _ (P : Program) (readings times : List ℤ) (code : List Op) where
   at-refusal count a (suc n) l r = rw (r, run)
 
   -- the instant ends, and leaves s
-  pub instant-ends : (u s : State) → (instant P readings times code u ≡ ok s) ↔ Ends P readings times code (length code) (startAt P readings times code u) s
+  pub instant-ends : (u s : State) → (runInstant P readings times code u ≡ ok s) ↔ Ends P readings times code (length code) (startAt P readings times code u) s
   instant-ends u s = (
     λ e. subst (Claim (length code) (startAt P readings times code u)) e (comes (length code) (startAt P readings times code u)),
     λ c.
@@ -104,7 +104,7 @@ module _ (P : Program) (readings times : List ℤ) (code : List Op) where
 
   -- the instant is refused with n
   pub instant-stops : (u : State) (n : ℕ)
-      → (instant P readings times code u ≡ stop n)
+      → (runInstant P readings times code u ≡ stop n)
       ↔ (RefusedAt P readings times code (length code) (startAt P readings times code u) n ⊎ Spent P readings times code (length code) (startAt P readings times code u) n)
   instant-stops u n =
       (λ e. subst (Claim (length code) (startAt P readings times code u)) e (comes (length code) (startAt P readings times code u)), back)

@@ -11,8 +11,8 @@ use Rattle.program.specs.Program.{Program, programOf}
 use Rattle.code.specs.Op.{Op, instructions}
 use Rattle.machine.specs.declared.State.{State}
 use Rattle.machine.specs.declared.Advanced.{Advanced}
-use Rattle.machine.specs.Instant.{Outcome, ok, stop, instant, startAt, RefusedAt, Spent}
-use Rattle.machine.specs.Schedules.{tick}
+use Rattle.machine.specs.Instant.{Outcome, ok, stop, runInstant, startAt, RefusedAt, Spent}
+use Rattle.machine.specs.Schedules.{tickAll}
 use Rattle.machine.specs.Advance.{Lent, Advance, advanceVerdict, ready, step, answer, advanceAnswer}
 use Rattle.machine.proofs.Outcomes.{ok-not-stop}
 use Rattle.machine.proofs.Collide.{tick-refused}
@@ -49,7 +49,7 @@ ready-number P code readings times s n = go (s .remaining)
         end (inl x) = omega (arith, x .1)
         end (inr x) = omega (arith, x .1)
 
-    go : (r : ℕ) → _≡_ {A = Outcome} (elim r [ zero ↦ instant P readings times code s | suc k ↦ ok s ]) (stop n) → 1 ≤ n
+    go : (r : ℕ) → _≡_ {A = Outcome} (elim r [ zero ↦ runInstant P readings times code s | suc k ↦ ok s ]) (stop n) → 1 ≤ n
     go zero e = number (instant-stops P readings times code s n .0 e)
     go (suc k) e = absurd (ok-not-stop e)
 
@@ -57,6 +57,6 @@ ready-number P code readings times s n = go (s .remaining)
 pub step-number : (P : Program) (code : List Op) (S : List ℤ) (X : Lent) (s : State) (n : ℕ) → step P code S X s ≡ stop n → 1 ≤ n
 step-number P code S X s n = go (ready P code (X .readings) (X .times) s) refl
   where
-    go : (o : Outcome) → ready P code (X .readings) (X .times) s ≡ o → _≡_ {A = Outcome} (elim o [ ok u ↦ tick P S (X .results) u | stop m ↦ stop m ]) (stop n) → 1 ≤ n
+    go : (o : Outcome) → ready P code (X .readings) (X .times) s ≡ o → _≡_ {A = Outcome} (elim o [ ok u ↦ tickAll P S (X .results) u | stop m ↦ stop m ]) (stop n) → 1 ≤ n
     go (ok u) e f = omega (arith, tick-refused P S (X .results) u n .0 f .0)
     go (stop m) e f = ready-number P code (X .readings) (X .times) s n (e ∙ f)

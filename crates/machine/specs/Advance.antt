@@ -21,8 +21,8 @@ use Rattle.code.specs.Compile.{lentRefusals, lentRules}
 use Rattle.suppliers.specs.Schedule.{joinedBad, Joined}
 use Rattle.machine.specs.declared.State.{State}
 use Rattle.machine.specs.declared.Advanced.{Advanced}
-use Rattle.machine.specs.Instant.{Outcome, ok, stop, instant}
-use Rattle.machine.specs.Schedules.{tick}
+use Rattle.machine.specs.Instant.{Outcome, ok, stop, runInstant}
+use Rattle.machine.specs.Schedules.{tickAll}
 
 abbrev pub stateOf : List ℤ → State
 stateOf v = record {
@@ -113,10 +113,10 @@ advanceRules = lentRules (λ L. L .tables) AdvanceShaped runRules
 
 -- the step: E code if no tick of the unit remains, then one tick of the schedules
 abbrev pub ready : Program → List Op → List ℤ → List ℤ → State → Outcome
-ready P code readings times s = elim (s .remaining) [ zero ↦ instant P readings times code s | suc n ↦ ok s ]
+ready P code readings times s = elim (s .remaining) [ zero ↦ runInstant P readings times code s | suc n ↦ ok s ]
 
 abbrev pub step : Program → List Op → List ℤ → Lent → State → Outcome
-step P code S X s = elim (ready P code (X .readings) (X .times) s) [ ok u ↦ tick P S (X .results) u | stop n ↦ stop n ]
+step P code S X s = elim (ready P code (X .readings) (X .times) s) [ ok u ↦ tickAll P S (X .results) u | stop n ↦ stop n ]
 
 abbrev pub answer : State → Outcome → Advanced
 answer s (ok u) = record { number = 0; state = u }

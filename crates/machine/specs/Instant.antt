@@ -12,7 +12,7 @@ use Rattle.theory.specs.Verdict.{verdict}
 use Rattle.program.specs.Program.{Program}
 use Rattle.code.specs.Op.{Op, call, schedule, branch, jump, future, return, faulty}
 use Rattle.machine.specs.declared.State.{State}
-use Rattle.machine.specs.Instruction.{At, instructionRefusals, does}
+use Rattle.machine.specs.Instruction.{At, instructionRefusals, executes}
 
 -- what an instant, or a whole advance, comes to
 pub data Outcome : Type 0 where
@@ -41,20 +41,20 @@ module _ (P : Program) (readings times : List ℤ) (code : List Op) where
   abbrev pub run : ℕ → At → Outcome
   run zero a = elim (ltb (a .address) (length code)) [ true ↦ stop 20 | false ↦ stop 19 ]
   run (suc count) a = elim (refusalAt a) [
-    | zero ↦ elim (isReturn (fetch a)) [ true ↦ ok (a .state) | false ↦ run count (does P readings times (fetch a) a) ]
+    | zero ↦ elim (isReturn (fetch a)) [ true ↦ ok (a .state) | false ↦ run count (executes P readings times (fetch a) a) ]
     | suc n ↦ stop (suc n)
   ]
 
   abbrev pub startAt : State → At
   startAt s = record { address = s .pending; planned = false; state = s }
 
-  abbrev pub instant : State → Outcome
-  instant s = run (length code) (startAt s)
+  abbrev pub runInstant : State → Outcome
+  runInstant s = run (length code) (startAt s)
 
   -- The same as claims: n instructions, none refused and none a `return`, lead from a to b
   abbrev pub Goes : ℕ → At → At → Type 0
   Goes zero a b = a ≡ b
-  Goes (suc n) a b = (refusalAt a ≡ 0) × (isReturn (fetch a) ≡ false) × Goes n (does P readings times (fetch a) a) b
+  Goes (suc n) a b = (refusalAt a ≡ 0) × (isReturn (fetch a) ≡ false) × Goes n (executes P readings times (fetch a) a) b
 
   -- from a, in at most `count` instructions: the last one is a `return` that is not refused, and leaves s
   pub record Ends (count : ℕ) (a : At) (s : State) : Type 0 where

@@ -151,19 +151,19 @@ module _ (P : Program) (readings times : List ℤ) where
   }
 
   -- the machine after one instruction that is not refused; `return` stays where it is
-  abbrev pub does : Op → At → At
-  does (call c) a = record { address = suc (a .address); planned = a .planned; state = called (a .state) (callOf c) }
-  does (schedule t) a = record {
+  abbrev pub executes : Op → At → At
+  executes (call c) a = record { address = suc (a .address); planned = a .planned; state = called (a .state) (callOf c) }
+  executes (schedule t) a = record {
     address = suc (a .address);
     planned = a .planned;
     state = withLeft (a .state) (set (a .state .left) t (numAt times t));
   }
-  does (branch d to) a = record {
+  executes (branch d to) a = record {
     address = elim (holds (driver P d .guard) (valueOf (a .state .ports))) [ true ↦ to | false ↦ suc (a .address) ];
     planned = a .planned;
     state = a .state;
   }
-  does (jump to) a = record { address = to; planned = a .planned; state = a .state }
-  does (future d to) a = record { address = suc (a .address); planned = true; state = planAt (a .address) d to (a .state) }
-  does return a = a
-  does faulty a = a
+  executes (jump to) a = record { address = to; planned = a .planned; state = a .state }
+  executes (future d to) a = record { address = suc (a .address); planned = true; state = planAt (a .address) d to (a .state) }
+  executes return a = a
+  executes faulty a = a

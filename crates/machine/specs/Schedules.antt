@@ -66,8 +66,8 @@ outputsAfter P results s t = elim (eqb (leftOf (s .left) t) 1) [
 ]
 
 -- the tick has passed: "after 4294967295 comes 0"
-abbrev pub passed : List ℤ → State → List ℕ → List ℤ → State
-passed S s left outputs = record {
+abbrev pub afterTick : List ℤ → State → List ℕ → List ℤ → State
+afterTick S s left outputs = record {
   ports = s .ports;
   outputs = outputs;
   time = (s .time + 1) % 2 ^ 32;
@@ -80,9 +80,9 @@ passed S s left outputs = record {
 }
 
 abbrev pub ticked : Program → List ℤ → List ℤ → State → Who → Outcome
-ticked P S results s nobody = ok (passed S s (s .left) (s .outputs))
-ticked P S results s (one t) = ok (passed S s (after (run t) (s .left)) (outputsAfter P results s t))
+ticked P S results s nobody = ok (afterTick S s (s .left) (s .outputs))
+ticked P S results s (one t) = ok (afterTick S s (after (run t) (s .left)) (outputsAfter P results s t))
 ticked P S results s several = stop 18
 
-abbrev pub tick : Program → List ℤ → List ℤ → State → Outcome
-tick P S results s = ticked P S results s (running S s)
+abbrev pub tickAll : Program → List ℤ → List ℤ → State → Outcome
+tickAll P S results s = ticked P S results s (running S s)

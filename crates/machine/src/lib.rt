@@ -1,17 +1,18 @@
 // The composed machine: its state, and what fresh and advance answer.
+use cells::limits::Program;
 
 // Port values, local outputs, time stamp, pending address, current `future` address, elapsed and remaining ticks of the
 // unit, remaining time per task, position per supplier (rows of its block passed).
 pub struct State {
-    pub ports: [i32; 64],
-    pub outputs: [i32; 64],
+    pub ports: [i32; Program::PORTS],
+    pub outputs: [i32; Program::PORTS],
     pub time: u32,
     pub pending: usize,
     pub current: usize,
     pub elapsed: usize,
     pub remaining: usize,
-    pub left: [usize; 32],
-    pub positions: [usize; 8],
+    pub left: [usize; Program::TASKS],
+    pub positions: [usize; Program::SUPPLIERS],
 }
 
 // The number, and the state handed back: as before on a refusal.

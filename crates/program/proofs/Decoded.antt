@@ -15,7 +15,7 @@ use Rattle.theory.proofs.Bools.{clash, says-eq, is-true, _and_}
 use Rattle.theory.proofs.Lists.{each-length, each-at, every-each, every-at}
 use Rattle.theory.proofs.Members.{Has, has-those, has-keep, has-map, member-says}
 use Rattle.program.specs.Tables.{Tables, output, taskCount, taskPortCount, tpTask, tpPort, driverCount, copyCount, copyDriver, modeCount, invocationCount, invMode, invFrequency, invTask, updateCount, updMode, updFrequency, switchCount, swMode, swFrequency}
-use Rattle.program.specs.Sets.{isKind, Kind}
+use Rattle.program.specs.Sets.{isKind, OfKind}
 use Rattle.program.specs.Units.{units, due}
 use Rattle.program.specs.Program.{Copy, Task, Invocation, Update, Switch, Mode, copyRow, driverRow, portsOf, taskRow, invocationRow, updateRow, switchRow, modeRow, programOf, task, driver, mode, nextUnit, dueInvocations, dueUpdates, dueSwitches, dueTasks}
 use Rattle.program.proofs.Sets.{kind-says}
@@ -61,20 +61,20 @@ module _ (T : Tables) where
   -- some port of this kind of a task
   pub has-ports : (Q : ℕ → Type 0) (kind t : ℕ)
       → Has Q (portsOf T kind t)
-      ↔ ((k : ℕ) × (k < taskPortCount T) × ((tpTask T k ≡ t) × Kind T kind (tpPort T k)) × Q (tpPort T k))
+      ↔ ((k : ℕ) × (k < taskPortCount T) × ((tpTask T k ≡ t) × OfKind T kind (tpPort T k)) × Q (tpPort T k))
   has-ports Q kind t =
       let r = has-those Q (λ k. eqb (tpTask T k) t && isKind T kind (tpPort T k)) (tpPort T) (taskPortCount T) in (
         λ h. let w = r .0 h in (w .0, w .1, test (w .0) .yes (w .2), w .3),
         λ w. r .1 (w .0, w .1, is-true (test (w .0)) (w .2), w .3),
       )
     where
-      test : (k : ℕ) → Says (eqb (tpTask T k) t && isKind T kind (tpPort T k)) ((tpTask T k ≡ t) × Kind T kind (tpPort T k))
+      test : (k : ℕ) → Says (eqb (tpTask T k) t && isKind T kind (tpPort T k)) ((tpTask T k ≡ t) × OfKind T kind (tpPort T k))
       test k = says-eq (tpTask T k) t and kind-says T kind (tpPort T k)
 
   -- an output of a task, of whatever number, is a declared output port
-  pub output-declared : (t p : ℕ) → member p (task (programOf T) t .outputs) ≡ true → Kind T output p
+  pub output-declared : (t p : ℕ) → member p (task (programOf T) t .outputs) ≡ true → OfKind T output p
   output-declared t p =
-      every-at (λ (K : Task). member p (K .outputs) ≡ true → Kind T output p) (programOf T .tasks) _ (λ m. clash {b = false} m refl)
+      every-at (λ (K : Task). member p (K .outputs) ≡ true → OfKind T output p) (programOf T .tasks) _ (λ m. clash {b = false} m refl)
       (every-each _ (taskRow T) (taskCount T) 0
       (λ i l u m.
       let (k, h, (e, q), s) = has-ports (λ x. p ≡ x) output i .0 (member-says p (portsOf T output i) .yes m) in rw s q)) t

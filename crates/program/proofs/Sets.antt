@@ -5,11 +5,11 @@ use Rattle.theory.specs.Claim.{Says}
 use Rattle.theory.proofs.Bools.{says-or, says-eq, says-lt, _and_}
 use Rattle.theory.proofs.Search.{any-says}
 use Rattle.program.specs.Tables.{Tables, input, output}
-use Rattle.program.specs.Sets.{isKind, isTaskPort, modePortAt, isInput, isOutput, isModePort, copiesFrom, copiesTo, isSource, isDestination, Kind, Input, Output, ModePort, Source, Destination}
+use Rattle.program.specs.Sets.{isKind, isTaskPort, modePortAt, isInput, isOutput, isModePort, copiesFrom, copiesTo, isSource, isDestination, OfKind, Input, Output, ModePort, Source, Destination}
 
 module _ (T : Tables) where
   -- p is a declared port of the kind
-  pub kind-says : (k p : ℕ) → Says (isKind T k p) (Kind T k p)
+  pub kind-says : (k p : ℕ) → Says (isKind T k p) (OfKind T k p)
   unfolding isKind
   kind-says k p = says-lt _ _ and says-eq _ _
 

@@ -46,24 +46,24 @@ unfoldable pub isDestination : Tables → ℕ → ℕ → Bool
 isDestination T d p = any (copiesTo T d p) (copyCount T)
 
 -- The same as claims.
-abbrev pub Kind : Tables → ℕ → ℕ → Type 0
-Kind T kind p = (p < portCount T) × (portKind T p ≡ kind)
+abbrev pub OfKind : Tables → ℕ → ℕ → Type 0
+OfKind T kind p = (p < portCount T) × (portKind T p ≡ kind)
 
 abbrev pub Sensor : Tables → ℕ → Type 0
-Sensor T = Kind T sensor
+Sensor T = OfKind T sensor
 
 abbrev pub Actuator : Tables → ℕ → Type 0
-Actuator T = Kind T actuator
+Actuator T = OfKind T actuator
 
 abbrev pub TaskPort : Tables → ℕ → ℕ → Type 0
 TaskPort T t p = (k : ℕ) × (k < taskPortCount T) × ((tpTask T k ≡ t) × (tpPort T k ≡ p))
 
 -- In[t], Out[t]
 abbrev pub Input : Tables → ℕ → ℕ → Type 0
-Input T t p = Kind T input p × TaskPort T t p
+Input T t p = OfKind T input p × TaskPort T t p
 
 abbrev pub Output : Tables → ℕ → ℕ → Type 0
-Output T t p = Kind T output p × TaskPort T t p
+Output T t p = OfKind T output p × TaskPort T t p
 
 -- ModePorts[m]
 abbrev pub ModePort : Tables → ℕ → ℕ → Type 0

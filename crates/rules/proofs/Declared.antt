@@ -7,14 +7,14 @@ use Rattle.theory.specs.Claim.{Bars}
 use Rattle.theory.proofs.Bools.{says-eq, bars-not, bars-says, bars-and, bars-as, _or_, _and_}
 use Rattle.theory.proofs.Search.{bars-any}
 use Rattle.program.specs.Tables.{Tables, sensor, actuator, input, output, taskPortCount, tpTask, tpPort, mpPort}
-use Rattle.program.specs.Sets.{isTaskPort, modePortAt, copiesTo, Kind, Input}
+use Rattle.program.specs.Sets.{isTaskPort, modePortAt, copiesTo, OfKind, Input}
 use Rattle.program.proofs.Sets.{kind-says}
 use Rattle.rules.specs.Declared.{samePort, taskPortClash, taskPortsBad, TaskPorts, copyClash, copiesBad, Copies, modePortClash, modePortsBad, ModePorts}
 
 module _ (T : Tables) where
   -- an input port stands in one row
   abbrev InputsOnce : Type 0
-  InputsOnce = (k : ℕ) → k < taskPortCount T → Kind T input (tpPort T k) → (j : ℕ) → j < k → tpPort T j ≡ tpPort T k → ⊥
+  InputsOnce = (k : ℕ) → k < taskPortCount T → OfKind T input (tpPort T k) → (j : ℕ) → j < k → tpPort T j ≡ tpPort T k → ⊥
 
   -- so it is of one task
   one-task : InputsOnce → {t u p : ℕ} → Input T t p → Input T u p → t ≡ u
@@ -23,7 +23,7 @@ module _ (T : Tables) where
       sym (a .1 .2 .0) ∙ ap (tpTask T) e ∙ b .1 .2 .0
     where
       later : {t u : ℕ} (a : Input T t p) (b : Input T u p) → a .1 .0 < b .1 .0 → ⊥
-      later (q, (j, h, (s, e))) (r, (k, i, (t, f))) l = once k i (subst (Kind T input) (sym f) r) j l (e ∙ sym f)
+      later (q, (j, h, (s, e))) (r, (k, i, (t, f))) l = once k i (subst (OfKind T input) (sym f) r) j l (e ∙ sym f)
 
   -- and where it is of one task, a second row would repeat the first
   one-row : TaskPorts T → InputsOnce

@@ -10,16 +10,16 @@ use Rattle.theory.proofs.Search.{rows-bar}
 use Rattle.theory.specs.Search.{any}
 use Rattle.theory.proofs.Bools.{says-eq, bars-and, bars-as, _or_, _and_}
 use Rattle.program.specs.Tables.{Tables, input, output, taskPortCount, tpTask, tpPort, guardKind, guardPort, kindInterval, copySource, copyDestination, mpPort}
-use Rattle.program.specs.Sets.{isKind, Kind, TaskPort, Input, Output, ModePort, Source, Destination}
+use Rattle.program.specs.Sets.{isKind, OfKind, TaskPort, Input, Output, ModePort, Source, Destination}
 use Rattle.program.proofs.Sets.{kind-says}
 use Rattle.rules.specs.Modes.{someOutput, someInput, somePort, someSource, someDestination}
 
 module _ (T : Tables) {bad : ℕ → Bool} {G : ℕ → Type 0} (b : (p : ℕ) → Bars (bad p) (G p)) where
-  some-task-port : (kind t : ℕ) → Bars (any (λ k. eqb (tpTask T k) t && isKind T kind (tpPort T k) && bad (tpPort T k)) (taskPortCount T)) ((p : ℕ) → Kind T kind p × TaskPort T t p → G p)
+  some-task-port : (kind t : ℕ) → Bars (any (λ k. eqb (tpTask T k) t && isKind T kind (tpPort T k) && bad (tpPort T k)) (taskPortCount T)) ((p : ℕ) → OfKind T kind p × TaskPort T t p → G p)
   some-task-port kind t =
       bars-as (rows-bar (tpPort T) _ (λ k. says-eq _ _ and kind-says T kind (tpPort T k)) b)
-      (λ g p (q, (k, l, (e, f))). g p (k, l, ((e, subst (Kind T kind) (sym f) q), f)))
-      (λ g p (k, l, ((e, q), f)). g p (subst (Kind T kind) f q, (k, l, (e, f))))
+      (λ g p (q, (k, l, (e, f))). g p (k, l, ((e, subst (OfKind T kind) (sym f) q), f)))
+      (λ g p (k, l, ((e, q), f)). g p (subst (OfKind T kind) f q, (k, l, (e, f))))
 
   -- some output of a task is bad: bars the claim of every output of it
   pub some-output-bars : (t : ℕ) → Bars (someOutput T bad t) ((p : ℕ) → Output T t p → G p)

@@ -6,7 +6,7 @@ use mathlib.Core.Bool.{Bool, not, _&&_, _||_}
 use lib.Dec.{eqb}
 use Rattle.theory.specs.Search.{any}
 use Rattle.program.specs.Tables.{Tables, sensor, actuator, input, output, taskPortCount, tpTask, tpPort, copyCount, copyDriver, copyDestination, modePortCount, mpMode, mpPort}
-use Rattle.program.specs.Sets.{isKind, isTaskPort, modePortAt, copiesTo, Kind, Input}
+use Rattle.program.specs.Sets.{isKind, isTaskPort, modePortAt, copiesTo, OfKind, Input}
 
 -- 3: a task port row repeats, names a sensor or actuator, or one input port serves two tasks
 unfoldable pub samePort : Tables → ℕ → ℕ → Bool
@@ -26,8 +26,8 @@ taskPortsBad T = any (taskPortClash T) (taskPortCount T)
 
 pub record TaskPorts (T : Tables) : Type 0 where
   pub no-repeat : (j k : ℕ) → j < k → k < taskPortCount T → tpTask T j ≡ tpTask T k → tpPort T j ≡ tpPort T k → ⊥
-  pub no-sensor : (k : ℕ) → k < taskPortCount T → Kind T sensor (tpPort T k) → ⊥
-  pub no-actuator : (k : ℕ) → k < taskPortCount T → Kind T actuator (tpPort T k) → ⊥
+  pub no-sensor : (k : ℕ) → k < taskPortCount T → OfKind T sensor (tpPort T k) → ⊥
+  pub no-actuator : (k : ℕ) → k < taskPortCount T → OfKind T actuator (tpPort T k) → ⊥
   -- In[t] and In[t′] share no port
   pub inputs-apart : (t u p : ℕ) → Input T t p → Input T u p → t ≡ u
 
@@ -50,4 +50,4 @@ modePortsBad T = any (modePortClash T) (modePortCount T)
 
 pub record ModePorts (T : Tables) : Type 0 where
   pub no-repeat : (j k : ℕ) → j < k → k < modePortCount T → mpMode T j ≡ mpMode T k → mpPort T j ≡ mpPort T k → ⊥
-  pub outputs : (k : ℕ) → k < modePortCount T → Kind T output (mpPort T k)
+  pub outputs : (k : ℕ) → k < modePortCount T → OfKind T output (mpPort T k)

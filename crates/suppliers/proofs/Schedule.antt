@@ -15,7 +15,7 @@ use Rattle.cells.specs.Limits.{suppliers, maxPart}
 use Rattle.program.specs.Tables.{Tables}
 use Rattle.code.specs.Compile.{listingOf, delayAt}
 use Rattle.runs.specs.Schedule.{scheduleCount, rowSupplier, rowAddress, rowTimeout}
-use Rattle.suppliers.specs.Schedule.{inDelay, dispatchFits, idleFits, precedes, rowWrong, rowsBad, partBad, rowsOf, joinedBad, Dispatches, Idles, RowFits, Rows, Part, Joined}
+use Rattle.suppliers.specs.Schedule.{inDelay, dispatchFits, idleFits, precedes, rowWrong, rowsBad, partBad, rowCount, joinedBad, Dispatches, Idles, RowFits, Rows, Part, Joined}
 
 -- there is a delay, and the timeout is within it
 delay-says : (o : Option ℕ) (t : ℕ) → Says (inDelay o t) ((d : ℕ) × (o ≡ some d) × (t ≤ d))
@@ -97,5 +97,5 @@ module _ (T : Tables) (S : List ℤ) where
   pub joined-bars : Bars (joinedBad T S) (Joined T S)
   unfolding joinedBad
   joined-bars =
-      bars-as (rows-bar-schedule or bars-any _ _ (λ s. bars-lt maxPart (rowsOf S s)) suppliers)
+      bars-as (rows-bar-schedule or bars-any _ _ (λ s. bars-lt maxPart (rowCount S s)) suppliers)
       (λ (r, f). record { rows = r; few = f }) (λ j. (j .rows, j .few))

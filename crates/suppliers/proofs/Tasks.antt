@@ -21,7 +21,7 @@ use Rattle.program.specs.Units.{invMisses, updMisses, swMisses, isMultiple, uni
 use Rattle.program.specs.Program.{Program, Switch, programOf, task, taskRow, mode, enteredUnit, nextUnit, dueSwitches, dueTasks}
 use Rattle.program.proofs.Decoded.{task-row}
 use Rattle.code.specs.Op.{jump}
-use Rattle.code.specs.Listing.{callDriver, blockAddress, entryAddress, futureAddress, headOf, testsOf, bodyOf, endOf, stubsOf, blockOf, listing}
+use Rattle.code.specs.Listing.{callDriver, blockAddress, entryAddress, futureAddress, headOf, testsOf, bodyOf, endOf, stubsOf, blockCode, listing}
 use Rattle.code.specs.Compile.{listingOf, delayAt}
 use Rattle.runs.specs.Schedule.{scheduleCount, rowSupplier, rowAddress, rowKind, rowTask, rowTimeout, kindDispatch}
 use Rattle.runs.specs.Windows.{inWindow}
@@ -46,7 +46,7 @@ listing-other : (P Q : Program) → listing P ≡ listing (other P Q)
 unfolding listing
 listing-other P Q = λ i. jump (blockAddress P (P .start) 0) ∷ cat (λ m. cat (λ k. block m k i) (mode P m .units)) (length (P .modes))
   where
-    block : (m k : ℕ) → blockOf P m k ≡ blockOf (other P Q) m k
+    block : (m k : ℕ) → blockCode P m k ≡ blockCode (other P Q) m k
     block m k = λ i.
         headOf P (mode P m) k
         ++ (testsOf (dueSwitches (mode P m) k) (2 + futureAddress P m k)

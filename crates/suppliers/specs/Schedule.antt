@@ -52,11 +52,11 @@ unfoldable pub partBad : Tables → List ℤ → ℕ → Bool
 partBad T S s = rowsBad T S || any (λ i. not (eqb (rowSupplier S i) s)) (scheduleCount S) || leb suppliers s
 
 -- the joined schedule: at most 256 rows of one supplier
-unfoldable pub rowsOf : List ℤ → ℕ → ℕ
-rowsOf S s = length (those (λ i. eqb (rowSupplier S i) s) (λ i. i) (scheduleCount S) 0)
+unfoldable pub rowCount : List ℤ → ℕ → ℕ
+rowCount S s = length (those (λ i. eqb (rowSupplier S i) s) (λ i. i) (scheduleCount S) 0)
 
 unfoldable pub joinedBad : Tables → List ℤ → Bool
-joinedBad T S = rowsBad T S || any (λ s. ltb maxPart (rowsOf S s)) suppliers
+joinedBad T S = rowsBad T S || any (λ s. ltb maxPart (rowCount S s)) suppliers
 
 -- The same as claims.
 pub record Dispatches (T : Tables) (S : List ℤ) (i : ℕ) : Type 0 where
@@ -88,4 +88,4 @@ pub record Part (T : Tables) (S : List ℤ) (s : ℕ) : Type 0 where
 
 pub record Joined (T : Tables) (S : List ℤ) : Type 0 where
   pub rows : Rows T S
-  pub few : (s : ℕ) → s < suppliers → rowsOf S s ≤ maxPart
+  pub few : (s : ℕ) → s < suppliers → rowCount S s ≤ maxPart

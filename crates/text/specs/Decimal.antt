@@ -39,15 +39,18 @@ abbrev pub magnitude : List ℕ → Option ℕ
 magnitude [] = none
 magnitude (b ∷ bs) = valueAfter 0 (b ∷ bs)
 
--- a number of 32 bits, below zero or not
+-- a number of 32 bits, below zero or not; the least one is one further from 0 than the greatest
+abbrev pub farthest : ℕ
+farthest = 2147483647
+
 abbrev pub notNegative : Option ℕ → Option ℤ
 notNegative none = none
-notNegative (some n) = elim (leb n 2147483647) [ true ↦ some (pos n) | false ↦ none ]
+notNegative (some n) = elim (leb n farthest) [ true ↦ some (pos n) | false ↦ none ]
 
 abbrev pub negative : Option ℕ → Option ℤ
 negative none = none
 negative (some zero) = some (pos 0)
-negative (some (suc n)) = elim (leb n 2147483647) [ true ↦ some (negsuc n) | false ↦ none ]
+negative (some (suc n)) = elim (leb n farthest) [ true ↦ some (negsuc n) | false ↦ none ]
 
 -- "-?[0-9]+", with a value of 32 bits; leading zeros and -0 are taken
 abbrev pub number : List ℕ → Option ℤ

@@ -12,19 +12,19 @@ use Rattle.program.specs.Tables.{Tables, tables, portWidth, taskWidth, taskPort
 use Rattle.text.specs.Decimal.{newline, number}
 
 -- a byte in front of the lines of a text
-abbrev pub before : ℕ → List (List ℕ) → List (List ℕ)
-before b [] = (b ∷ []) ∷ []
-before b (l ∷ ls) = (b ∷ l) ∷ ls
+abbrev pub inFront : ℕ → List (List ℕ) → List (List ℕ)
+inFront b [] = (b ∷ []) ∷ []
+inFront b (l ∷ ls) = (b ∷ l) ∷ ls
 
 -- its lines; the last line end may be missing
 abbrev pub lines : List ℕ → List (List ℕ)
 lines [] = []
-lines (b ∷ bs) = elim (eqb b newline) [ true ↦ [] ∷ lines bs | false ↦ before b (lines bs) ]
+lines (b ∷ bs) = elim (eqb b newline) [ true ↦ [] ∷ lines bs | false ↦ inFront b (lines bs) ]
 
 -- each line as a number, none where it is no number
-abbrev pub numbers : List (List ℕ) → List (Option ℤ)
-numbers [] = []
-numbers (l ∷ ls) = number l ∷ numbers ls
+abbrev pub numbersOf : List (List ℕ) → List (Option ℤ)
+numbersOf [] = []
+numbersOf (l ∷ ls) = number l ∷ numbersOf ls
 
 -- what reading comes to: the text is bad, a count is out of its limit, or these numbers, and what is left to read
 pub data Read (A : Type 0) : Type 0 where
@@ -48,12 +48,12 @@ several zero rest = got [] rest
 several (suc n) rest = then (one rest) (λ z more. then (several n more) (λ zs last. got (z ∷ zs) last))
 
 -- a table: its row count, then its rows
-abbrev pub rowsOf : ℕ → ℕ → ℤ → List (Option ℤ) → Read (List ℤ)
-rowsOf width limit (negsuc n) rest = tooMany
-rowsOf width limit (pos n) rest = elim (leb n limit) [ true ↦ several (n * width) rest | false ↦ tooMany ]
+abbrev pub tableRows : ℕ → ℕ → ℤ → List (Option ℤ) → Read (List ℤ)
+tableRows width limit (negsuc n) rest = tooMany
+tableRows width limit (pos n) rest = elim (leb n limit) [ true ↦ several (n * width) rest | false ↦ tooMany ]
 
 abbrev pub table : ℕ → ℕ → List (Option ℤ) → Read (List ℤ)
-table width limit rest = then (one rest) (rowsOf width limit)
+table width limit rest = then (one rest) (tableRows width limit)
 
 -- tables one after the other, by width and limit
 pub record Shape : Type 0 where
@@ -90,4 +90,4 @@ ended T [] = got T []
 ended T (z ∷ rest) = bad
 
 abbrev pub program : List ℕ → Read Tables
-program text = then (one (numbers (lines text))) (λ start rest. then (allOf shapes rest) (λ ts last. ended (placed start ts) last))
+program text = then (one (numbersOf (lines text))) (λ start rest. then (allOf shapes rest) (λ ts last. ended (placed start ts) last))

@@ -1,3 +1,4 @@
 -- Document 01's worked table.
 pub mod Table
 pub mod Runs
+pub mod Instances

@@ -14,12 +14,12 @@ use Rattle.rules.specs.Verdict.{programVerdict}
 use Rattle.code.specs.Compile.{listingOf, codeLong, sliceShort, compileVerdict}
 use Rattle.code.specs.Listing.{listing}
 use Rattle.runs.specs.Windows.{windowHas, inWindow, shareTick}
-use Rattle.suppliers.specs.Schedule.{dispatchFits, idleFits, precedes, rowWrong, rowsBad, partBad, rowsOf, joinedBad}
+use Rattle.suppliers.specs.Schedule.{dispatchFits, idleFits, precedes, rowWrong, rowsBad, partBad, rowCount, joinedBad}
 use Rattle.suppliers.specs.Supplier.{partShapeBad, partVerdict, supplierVerdict}
 use Rattle.suppliers.specs.Windows.{windowWrong, windowsBad, windowsShapeBad, windowsVerdict}
 use Rattle.machine.specs.Advance.{freshAnswer, advanceShapeBad, stateBad, advanceVerdict, advanceAnswer}
 use Rattle.text.specs.Shipped.{shipped}
 
 unfoldable pub computed : Unit {0}
-unfolding any firstFrom first nameOf numAt nameAt wordAt inside isMissing isKind isTaskPort modePortAt isInput isOutput isModePort copiesFrom copiesTo isSource isDestination misses invMisses updMisses swMisses isMultiple units samePort taskPortClash taskPortsBad copyClash copiesBad modePortClash modePortsBad inRange portBad taskBad taskPortBad alwaysFits intervalFits driverBad copyBad modeBad modePortBad invocationBad updateBad switchBad startBad fieldsBad someOutput someInput somePort someSource someDestination unread invocationClash invocationWrong invocationsBad updateClash updateWrong updatesBad switchClash switchWrong switchesBad badSlice badLength shapeBad unitsWrong unitsBad notWhole wholeBad programVerdict listingOf codeLong sliceShort compileVerdict listing windowHas inWindow shareTick dispatchFits idleFits precedes rowWrong rowsBad partBad rowsOf joinedBad partShapeBad partVerdict supplierVerdict windowWrong windowsBad windowsShapeBad windowsVerdict freshAnswer advanceShapeBad stateBad advanceVerdict advanceAnswer shipped
+unfolding any firstFrom first nameOf numAt nameAt wordAt inside isMissing isKind isTaskPort modePortAt isInput isOutput isModePort copiesFrom copiesTo isSource isDestination misses invMisses updMisses swMisses isMultiple units samePort taskPortClash taskPortsBad copyClash copiesBad modePortClash modePortsBad inRange portBad taskBad taskPortBad alwaysFits intervalFits driverBad copyBad modeBad modePortBad invocationBad updateBad switchBad startBad fieldsBad someOutput someInput somePort someSource someDestination unread invocationClash invocationWrong invocationsBad updateClash updateWrong updatesBad switchClash switchWrong switchesBad badSlice badLength shapeBad unitsWrong unitsBad notWhole wholeBad programVerdict listingOf codeLong sliceShort compileVerdict listing windowHas inWindow shareTick dispatchFits idleFits precedes rowWrong rowsBad partBad rowCount joinedBad partShapeBad partVerdict supplierVerdict windowWrong windowsBad windowsShapeBad windowsVerdict freshAnswer advanceShapeBad stateBad advanceVerdict advanceAnswer shipped
 computed = tt

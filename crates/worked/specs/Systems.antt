@@ -29,12 +29,12 @@ F-system = record { tables = F 6 2; windows = window 0 10; parts = partsOf (sche
 
 -- The monitor. Ports: 0 the measured resistance, 1 the relay, 2 and 3 the tasks' inputs, 4 their output.
 -- Mode 0, period 4: task 0 of supplier 0, twice; a missing reading switches to mode 1.
--- Mode 1, period 2: task 1 of supplier 1, once; a reading 0..100 switches back.
-abbrev pub monitor : Tables
-monitor =
+-- Mode 1, period 2: task 1 of supplier 1, once, with this worst-case time; a reading 0..100 switches back.
+abbrev pub monitor : ℕ → Tables
+monitor worst1 =
     tables
     (ports 1 sensor ++ (ports 1 actuator ++ (ports 2 input ++ ports 1 output)))
-    (numbers (0 ∷ 1 ∷ 1 ∷ 2 ∷ []))
+    (numbers (0 ∷ 1 ∷ 1 ∷ worst1 ∷ []))
     (numbers (0 ∷ 2 ∷ 0 ∷ 4 ∷ 1 ∷ 3 ∷ 1 ∷ 4 ∷ []))
     (alwaysRow ++ (alwaysRow ++ (alwaysRow ++ (intervalRow 0 noReading noReading ++ intervalRow 0 (pos 0) (pos 100)))))
     (numbers (0 ∷ 0 ∷ 2 ∷ 1 ∷ 0 ∷ 3 ∷ 2 ∷ 4 ∷ 1 ∷ 3 ∷ 4 ∷ 4 ∷ 4 ∷ 4 ∷ 4 ∷ []))
@@ -45,11 +45,14 @@ monitor =
     (numbers (0 ∷ 1 ∷ 1 ∷ 3 ∷ 1 ∷ 1 ∷ 0 ∷ 4 ∷ []))
     (pos 0)
 
--- its blocks are at 7 and 15 in mode 0 and at 23 in mode 1
+-- its blocks are at 7 and 15 in mode 0 and at 23 in mode 1; supplier 1's window goes to this tick
+abbrev pub monitorWindows : ℕ → List ℤ
+monitorWindows to1 = numbers (0 ∷ 0 ∷ 0 ∷ 4 ∷ 1 ∷ 1 ∷ 0 ∷ to1 ∷ [])
+
 abbrev pub monitor-system : System
 monitor-system = record {
-  tables = monitor;
-  windows = numbers (0 ∷ 0 ∷ 0 ∷ 4 ∷ 1 ∷ 1 ∷ 0 ∷ 2 ∷ []);
+  tables = monitor 2;
+  windows = monitorWindows 2;
   parts = partsOf (numbers (0 ∷ 7 ∷ 0 ∷ 0 ∷ 2 ∷ 0 ∷ 15 ∷ 0 ∷ 0 ∷ 2 ∷ [])) (numbers (1 ∷ 23 ∷ 0 ∷ 1 ∷ 2 ∷ []));
 }
 

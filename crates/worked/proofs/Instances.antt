@@ -1,0 +1,156 @@
+-- Each theorem with premises has a program that meets them: F, and the monitor with its two suppliers.
+-- Assumes nothing.
+use Prim.Native.Nat.{ℕ, zero, suc, _+_, _*_, _≤_}
+use mathlib.Core.Path.{_≡_, refl, sym, _∙_}
+use mathlib.Core.Bool.{Bool, true, false, _&&_}
+use mathlib.Core.List.{List, [], _∷_}
+use native.Mathlib.Omega.{arith}
+use lib.IntN.{ℤ, pos}
+use lib.Signed.{leZ}
+use lib.ListN.{length}
+use Rattle.theory.specs.Lists.{Every}
+use Rattle.theory.specs.Verdict.{Keep}
+use Rattle.theory.proofs.Bools.{clash}
+use Rattle.theory.proofs.Lists.{every-at}
+use Rattle.cells.specs.Cell.{numAt}
+use Rattle.cells.specs.Reading.{noReading, greatest, Value, Values}
+use Rattle.cells.proofs.Names.{past-end}
+use Rattle.program.specs.Tables.{taskWidth, taskSupplier, taskWorst}
+use Rattle.program.specs.Program.{programOf}
+use Rattle.program.specs.Ports.{valueOf}
+use Rattle.rules.specs.Verdict.{programRules, programVerdict}
+use Rattle.giotto.specs.Instant.{results}
+use Rattle.giotto.specs.Execution.{execution}
+use Rattle.giotto.specs.Successor.{Successor}
+use Rattle.giotto.proofs.Execution.{execution-succeeds}
+use Rattle.runs.specs.Round.{Choice, Fair, Good}
+use Rattle.suppliers.specs.Windows.{windowsVerdict}
+use Rattle.suppliers.specs.Supplier.{Asked, courseOf, nothing, windowedOf, partVerdict, supplierVerdict}
+use Rattle.demands.specs.Supplier.{ownWindows}
+use Rattle.demands.specs.Supplied.{supplied}
+use Rattle.demands.specs.Composed as composed
+use Rattle.demands.proofs.Verdict.{accepted-exactly}
+use Rattle.demands.proofs.Supplier.{supplier-exact, independent}
+use Rattle.demands.proofs.Supplied.{worstTimes, worst-case-fair}
+use Rattle.worked.specs.Computed.{computed}
+use Rattle.worked.specs.Programs.{F}
+use Rattle.worked.specs.Systems.{F-system, monitor, monitorWindows, monitor-system, mix, readings}
+
+-- the numbers of a table are of 32 bits, by a test
+abbrev areValues : List ℤ → Bool
+areValues [] = true
+areValues (z ∷ zs) = leZ noReading z && leZ z greatest && areValues zs
+
+every-value : (t : List ℤ) → areValues t ≡ true → Every Value t
+every-value [] e = tt
+every-value (z ∷ zs) e = go (leZ noReading z) (leZ z greatest) refl refl e (every-value zs)
+  where
+    go : (a b : Bool) → leZ noReading z ≡ a → leZ z greatest ≡ b → (a && b && areValues zs) ≡ true → (areValues zs ≡ true → Every Value zs) → Every Value (z ∷ zs)
+    go true true p q f ih = ((p, q), ih f)
+    go true false p q f ih = clash {b = false} f refl
+    go false b p q f ih = clash {b = false} f refl
+
+values-by-test : (t : List ℤ) → areValues t ≡ true → Values t
+values-by-test t e = every-at Value t (pos 0) (refl, refl) (every-value t e)
+
+-- demand 2: both programs meet every rule
+F-verdict : programVerdict (F 6 2) ≡ 0
+unfolding computed
+F-verdict = refl
+
+pub F-rules : Keep programRules (F 6 2)
+F-rules = accepted-exactly (F 6 2) (values-by-test (F 6 2 .drivers) refl) .0 F-verdict
+
+monitor-verdict : programVerdict (monitor 2) ≡ 0
+unfolding computed
+monitor-verdict = refl
+
+pub monitor-rules : Keep programRules (monitor 2)
+monitor-rules = accepted-exactly (monitor 2) (values-by-test (monitor 2 .drivers) refl) .0 monitor-verdict
+
+-- 001's successor: F's first instant has one
+pub F-succeeds :
+    Successor (F 6 2) (results (programOf (F 6 2)) mix (programOf (F 6 2) .first)) (valueOf (readings 0))
+    (execution (programOf (F 6 2)) mix readings 0) (execution (programOf (F 6 2)) mix readings 1)
+F-succeeds = execution-succeeds (F 6 2) F-rules mix readings 0 refl
+
+-- demand 3, first half: F's code keeps to its window and ends in time for every choice of execution times
+abbrev F-asked : Asked
+F-asked = record { tables = F 6 2; windows = F-system .windows; part = F-system .parts 0; supplier = pos 0 }
+
+F-part : partVerdict F-asked ≡ 0
+unfolding computed
+F-part = refl
+
+F-answer : supplierVerdict F-asked .number ≡ 0
+unfolding computed
+F-answer = refl
+
+pub F-good : (c : Choice) → Fair (courseOf F-asked 0) c → Good (courseOf F-asked 0) c nothing
+F-good c f = supplier-exact F-asked F-part .0 F-answer 0 (omega arith) c f
+
+-- independence: the monitor's supplier 0, where supplier 1 gets less time and a shorter window
+abbrev asked : ℕ → ℕ → Asked
+asked worst1 to1 = record { tables = monitor worst1; windows = monitorWindows to1; part = monitor-system .parts 0; supplier = pos 0 }
+
+-- past the two tasks stands 0, whatever the time of the second
+beyond : (worst1 t column : ℕ) → numAt (monitor worst1 .tasks) (suc (suc t) * taskWidth + column) ≡ 0
+beyond worst1 t column =
+    let past : length (monitor worst1 .tasks) ≤ suc (suc t) * taskWidth + column = omega arith in
+    past-end (monitor worst1 .tasks) (suc (suc t) * taskWidth + column) past
+
+not-own : taskSupplier (monitor 2) 1 ≡ 0 → ⊥
+unfolding computed
+not-own e = omega arith
+
+same-suppliers : (t : ℕ) → taskSupplier (monitor 2) t ≡ taskSupplier (monitor 1) t
+unfolding computed
+same-suppliers zero = refl
+same-suppliers (suc zero) = refl
+same-suppliers (suc (suc t)) = beyond 2 t 0 ∙ sym (beyond 1 t 0)
+
+own-worst : (t : ℕ) → taskSupplier (monitor 2) t ≡ 0 → taskWorst (monitor 2) t ≡ taskWorst (monitor 1) t
+unfolding computed
+own-worst zero e = refl
+own-worst (suc zero) e = absurd (not-own e)
+own-worst (suc (suc t)) e = beyond 2 t 1 ∙ sym (beyond 1 t 1)
+
+own-windows : ownWindows (monitorWindows 2) 0 ≡ ownWindows (monitorWindows 1) 0
+unfolding computed
+own-windows = refl
+
+one-accepted : windowsVerdict (windowedOf (asked 2 2)) ≡ 0
+unfolding computed
+one-accepted = refl
+
+other-accepted : windowsVerdict (windowedOf (asked 1 1)) ≡ 0
+unfolding computed
+other-accepted = refl
+
+pub monitor-independent : supplierVerdict (asked 2 2) ≡ supplierVerdict (asked 1 1)
+monitor-independent =
+    independent (asked 2 2) (asked 1 1) refl refl
+    (record {
+      ports = refl;
+      tasks = refl;
+      suppliers = same-suppliers;
+      own-worst = own-worst;
+      task-ports = refl;
+      drivers = refl;
+      copies = refl;
+      modes = refl;
+      mode-ports = refl;
+      invocations = refl;
+      updates = refl;
+      switches = refl;
+      start = refl;
+    })
+    own-windows one-accepted other-accepted
+
+-- demand 3, second half: F meets the premises at every tick, with worst-case times
+F-windows : windowsVerdict (record { tables = F-system .tables; windows = F-system .windows }) ≡ 0
+unfolding computed
+F-windows = refl
+
+pub F-fair : (n : ℕ) → composed.Fair F-system mix (supplied F-system mix readings (λ k. worstTimes (programOf (F-system .tables)))) n
+F-fair n = worst-case-fair F-system F-windows mix readings (λ k. refl) n
