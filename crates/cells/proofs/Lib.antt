@@ -2,4 +2,5 @@
 pub mod Ints
 pub mod Names
 pub mod Place
+pub mod Rows
 pub mod Readings

@@ -1,11 +1,12 @@
 -- Guards that hold together: two that hold for one valuation can hold for one of 32 bits, and the test of two guards says that.
 -- Assumes that the bounds of intervals are of 32 bits (`Bounded`), and for the test that no interval is empty (`Sound`).
 use Prim.Native.Nat.{ℕ}
-use mathlib.Core.Path.{_≡_, refl, sym}
-use mathlib.Core.Bool.{Bool, true, false, cond}
+use mathlib.Core.Path.{_≡_, refl, sym, ap, ap₂}
+use mathlib.Core.Bool.{Bool, true, false, cond, not, _&&_, _||_}
 use mathlib.Core.Logic.{_⊎_, inl, inr, ⊎-elim}
 use lib.Dec.{eqb}
 use lib.IntN.{ℤ, pos}
+use lib.Signed.{leZ}
 use borrow.Author.Tests.{eqb-true, eqb-false, eq-eqb, ne-eqb}
 use Rattle.theory.specs.Claim.{Says}
 use Rattle.theory.specs.Order.{_≤Z_}
@@ -111,3 +112,22 @@ module _ (T : Tables) where
   pub guards-meet : Values (T .drivers) → (d e : ℕ) (v : ℕ → ℤ)
       → holds (guardOf T d) v ≡ true → holds (guardOf T e) v ≡ true → Meet (guardOf T d) (guardOf T e)
   guards-meet n d e v = hold-meet (guardOf T d) (guardOf T e) v (bounded n d) (bounded n e)
+
+-- A driver's guard by its kind
+guard-always : (T : Tables) (d : ℕ) → eqb (guardKind T d) kindAlways ≡ true → guardOf T d ≡ always
+guard-always T d e = ap (λ (b : Bool). elim b [ true ↦ always | false ↦ interval (guardPort T d) (guardLow T d) (guardHigh T d) ]) e
+
+guard-interval : (T : Tables) (d : ℕ) → eqb (guardKind T d) kindAlways ≡ false → guardOf T d ≡ interval (guardPort T d) (guardLow T d) (guardHigh T d)
+guard-interval T d e = ap (λ (b : Bool). elim b [ true ↦ always | false ↦ interval (guardPort T d) (guardLow T d) (guardHigh T d) ]) e
+
+-- so two drivers' guards meet where one is always
+pub always-meets : (T : Tables) (d e : ℕ) → eqb (guardKind T d) kindAlways ≡ true → meet (guardOf T d) (guardOf T e) ≡ true
+always-meets T d e a = ap (λ (g : Guard). meet g (guardOf T e)) (guard-always T d a)
+
+pub meets-always : (T : Tables) (d e : ℕ) → eqb (guardKind T d) kindAlways ≡ false → eqb (guardKind T e) kindAlways ≡ true → meet (guardOf T d) (guardOf T e) ≡ true
+meets-always T d e a b = ap₂ meet (guard-interval T d a) (guard-always T e b)
+
+-- and two intervals on two ports, or where each begins no later than the other ends
+pub intervals-meet : (T : Tables) (d e : ℕ) → eqb (guardKind T d) kindAlways ≡ false → eqb (guardKind T e) kindAlways ≡ false
+    → meet (guardOf T d) (guardOf T e) ≡ (not (eqb (guardPort T d) (guardPort T e)) || (leZ (guardLow T d) (guardHigh T e) && leZ (guardLow T e) (guardHigh T d)))
+intervals-meet T d e a b = ap₂ meet (guard-interval T d a) (guard-interval T e b)

@@ -12,7 +12,7 @@ use Rattle.theory.proofs.Bools.{says-eq, bars-and, bars-as, _or_, _and_}
 use Rattle.program.specs.Tables.{Tables, input, output, taskPortCount, tpTask, tpPort, guardKind, guardPort, kindInterval, copySource, copyDestination, mpPort}
 use Rattle.program.specs.Sets.{isKind, OfKind, TaskPort, Input, Output, ModePort, Source, Destination}
 use Rattle.program.proofs.Sets.{kind-says}
-use Rattle.rules.specs.Modes.{someOutput, someInput, somePort, someSource, someDestination}
+use Rattle.rules.specs.Modes.{ownPort, outputWith, inputWith, portWith, sourceWith, destinationWith, someOutput, someInput, somePort, someSource, someDestination}
 
 module _ (T : Tables) {bad : ℕ → Bool} {G : ℕ → Type 0} (b : (p : ℕ) → Bars (bad p) (G p)) where
   some-task-port : (kind t : ℕ) → Bars (any (λ k. eqb (tpTask T k) t && isKind T kind (tpPort T k) && bad (tpPort T k)) (taskPortCount T)) ((p : ℕ) → OfKind T kind p × TaskPort T t p → G p)
@@ -23,22 +23,22 @@ module _ (T : Tables) {bad : ℕ → Bool} {G : ℕ → Type 0} (b : (p : ℕ) �
 
   -- some output of a task is bad: bars the claim of every output of it
   pub some-output-bars : (t : ℕ) → Bars (someOutput T bad t) ((p : ℕ) → Output T t p → G p)
-  unfolding someOutput
+  unfolding someOutput outputWith ownPort
   some-output-bars t = some-task-port output t
 
   -- the same of its inputs
   pub some-input-bars : (t : ℕ) → Bars (someInput T bad t) ((p : ℕ) → Input T t p → G p)
-  unfolding someInput
+  unfolding someInput inputWith ownPort
   some-input-bars t = some-task-port input t
 
   -- of the ports of a mode
   pub some-port-bars : (m : ℕ) → Bars (somePort T bad m) ((p : ℕ) → ModePort T m p → G p)
-  unfolding somePort
+  unfolding somePort portWith
   some-port-bars m = rows-bar (mpPort T) _ (λ k. says-eq _ _) b
 
   -- of the sources of a driver
   pub some-source-bars : (d : ℕ) → Bars (someSource T bad d) ((p : ℕ) → Source T d p → G p)
-  unfolding someSource
+  unfolding someSource sourceWith
   some-source-bars d =
       bars-as
       (rows-bar (copySource T) _ (λ c. says-eq _ _) b or bars-and (says-eq (guardKind T d) kindInterval) (b (guardPort T d)))
@@ -47,5 +47,5 @@ module _ (T : Tables) {bad : ℕ → Bool} {G : ℕ → Type 0} (b : (p : ℕ) �
 
   -- of the destinations of a driver
   pub some-destination-bars : (d : ℕ) → Bars (someDestination T bad d) ((p : ℕ) → Destination T d p → G p)
-  unfolding someDestination
+  unfolding someDestination destinationWith
   some-destination-bars d = rows-bar (copyDestination T) _ (λ c. says-eq _ _) b

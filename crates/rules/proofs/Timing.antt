@@ -12,7 +12,7 @@ use Rattle.program.specs.Tables.{Tables, modeCount, modePeriod}
 use Rattle.program.specs.Units.{units}
 use Rattle.program.proofs.Units.{misses-bars, units-least, units-only}
 use Rattle.rules.specs.Fields.{Fields}
-use Rattle.rules.specs.Timing.{unitsWrong, unitsBad, UnitsFit, notWhole, wholeBad, Whole}
+use Rattle.rules.specs.Timing.{unitsWrong, unitsBad, UnitsFit, notWhole, wholeWrong, wholeBad, Whole}
 
 module _ (T : Tables) where
   -- number 9 bars units, in every mode, that are within the limit and divide the period
@@ -43,7 +43,7 @@ module _ (T : Tables) where
 
   -- number 10 bars task frequencies that are multiples of the switch frequencies of their mode
   pub whole-bars : Bars (wholeBad T) (Whole T)
-  unfolding wholeBad notWhole
+  unfolding wholeBad wholeWrong notWhole
   whole-bars =
       bars-as (bars-any _ _ (λ s. bars-any _ _ (λ i. bars-and (says-eq _ _) (misses-bars _ _)) _) _)
       (λ g s i h l. g s h i l) (λ g s h i l. g s i h l)

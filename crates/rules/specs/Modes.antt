@@ -10,23 +10,42 @@ use Rattle.program.specs.Tables.{Tables, sensor, actuator, input, output, taskP
 use Rattle.program.specs.Guard.{guardOf, meet, Meet}
 use Rattle.program.specs.Sets.{isKind, isInput, isOutput, isModePort, isDestination, Sensor, Actuator, Input, Output, ModePort, Source, Destination}
 
+-- row k of the task ports is one of task t, of this kind
+unfoldable pub ownPort : Tables → ℕ → ℕ → ℕ → Bool
+ownPort T kind t k = eqb (tpTask T k) t && isKind T kind (tpPort T k)
+
+-- row k names an output of task t with a property, an input of task t, a port of mode m; row c names a source of driver d, a
+-- destination of driver d
+unfoldable pub outputWith : Tables → (ℕ → Bool) → ℕ → ℕ → Bool
+outputWith T bad t k = let b = bad (tpPort T k) in ownPort T output t k && b
+
+unfoldable pub inputWith : Tables → (ℕ → Bool) → ℕ → ℕ → Bool
+inputWith T bad t k = let b = bad (tpPort T k) in ownPort T input t k && b
+
+unfoldable pub portWith : Tables → (ℕ → Bool) → ℕ → ℕ → Bool
+portWith T bad m k = let b = bad (mpPort T k) in eqb (mpMode T k) m && b
+
+unfoldable pub sourceWith : Tables → (ℕ → Bool) → ℕ → ℕ → Bool
+sourceWith T bad d c = let b = bad (copySource T c) in eqb (copyDriver T c) d && b
+
+unfoldable pub destinationWith : Tables → (ℕ → Bool) → ℕ → ℕ → Bool
+destinationWith T bad d c = let b = bad (copyDestination T c) in eqb (copyDriver T c) d && b
+
 -- some output of task t has a property; some input; some port of mode m; some source of driver d; some destination
 unfoldable pub someOutput : Tables → (ℕ → Bool) → ℕ → Bool
-someOutput T bad t = any (λ k. let b = bad (tpPort T k) in eqb (tpTask T k) t && isKind T output (tpPort T k) && b) (taskPortCount T)
+someOutput T bad t = any (outputWith T bad t) (taskPortCount T)
 
 unfoldable pub someInput : Tables → (ℕ → Bool) → ℕ → Bool
-someInput T bad t = any (λ k. let b = bad (tpPort T k) in eqb (tpTask T k) t && isKind T input (tpPort T k) && b) (taskPortCount T)
+someInput T bad t = any (inputWith T bad t) (taskPortCount T)
 
 unfoldable pub somePort : Tables → (ℕ → Bool) → ℕ → Bool
-somePort T bad m = any (λ k. let b = bad (mpPort T k) in eqb (mpMode T k) m && b) (modePortCount T)
+somePort T bad m = any (portWith T bad m) (modePortCount T)
 
 unfoldable pub someSource : Tables → (ℕ → Bool) → ℕ → Bool
-someSource T bad d =
-    any (λ c. let b = bad (copySource T c) in eqb (copyDriver T c) d && b) (copyCount T)
-    || (eqb (guardKind T d) kindInterval && bad (guardPort T d))
+someSource T bad d = any (sourceWith T bad d) (copyCount T) || (eqb (guardKind T d) kindInterval && bad (guardPort T d))
 
 unfoldable pub someDestination : Tables → (ℕ → Bool) → ℕ → Bool
-someDestination T bad d = any (λ c. let b = bad (copyDestination T c) in eqb (copyDriver T c) d && b) (copyCount T)
+someDestination T bad d = any (destinationWith T bad d) (copyCount T)
 
 -- a task driver or a mode driver reads only ports of the mode and sensors
 unfoldable pub unread : Tables → ℕ → ℕ → Bool

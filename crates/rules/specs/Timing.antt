@@ -29,8 +29,11 @@ UnitsFit T = (m : ℕ) → m < modeCount T → ModeUnits T m
 unfoldable pub notWhole : Tables → ℕ → ℕ → Bool
 notWhole T s i = eqb (invMode T i) (swMode T s) && misses (invFrequency T i) (swFrequency T s)
 
+unfoldable pub wholeWrong : Tables → ℕ → Bool
+wholeWrong T s = any (notWhole T s) (invocationCount T)
+
 unfoldable pub wholeBad : Tables → Bool
-wholeBad T = any (λ s. any (notWhole T s) (invocationCount T)) (switchCount T)
+wholeBad T = any (wholeWrong T) (switchCount T)
 
 abbrev pub Whole : Tables → Type 0
 Whole T = (s i : ℕ) → s < switchCount T → i < invocationCount T → invMode T i ≡ swMode T s → swFrequency T s ∣ invFrequency T i

@@ -1,0 +1,16 @@
+-- `program::guard::is_always` meets its contract: the column says the kind. Assumes nothing.
+use borrow.Author.Needs.{needs}
+use Rattle.program.proofs.guard.is_always.Statement.{statement}
+use Rattle.program.proofs.guard.is_always.Tie as tie
+
+index-requires : tie.Need-index-requires
+index-requires c κs = search needs
+
+field-requires : tie.Need-field-requires
+field-requires c κs = search needs
+
+returns : tie.Need-returns
+returns c T e = simp (c .field .ensures, c .before .index .ensures, e)
+
+pub is-always-spec : {M : Type 1} → statement M
+is-always-spec = tie.close (tie.spec index-requires field-requires returns)

@@ -1,0 +1,52 @@
+-- `program::multiples::some_switch_misses` meets its contract: the search asks the test of each row. Assumes nothing.
+use Prim.Native.Nat.{_/_, _-_}
+use mathlib.Core.Path.{_≡_, sym, _∙_}
+use borrow.Author.Needs.{needs}
+use Rattle.theory.proofs.Search.{Passed, passed-none, passed-more, any-at, passed-all}
+use Rattle.cells.proofs.Rows.{any-rows}
+use lib.ListN.{length}
+use Rattle.program.specs.Tables.{Tables, switchWidth}
+use Rattle.program.specs.Units.{swMisses}
+use Rattle.program.proofs.multiples.some_switch_misses.Statement.{statement}
+use Rattle.program.proofs.multiples.some_switch_misses.Tie as tie
+
+abbrev Inv-loop : tie.InvT-loop
+Inv-loop switches m u n i₀ i = (T : Tables) → T .switches ≡ switches → Passed (swMisses T (m .0) u) (length switches / switchWidth) i
+
+abbrev μ-loop : tie.MeasureT-loop
+μ-loop switches m u n i₀ i = length switches / switchWidth - i
+
+loop-holds : tie.Need-loop-holds Inv-loop μ-loop
+loop-holds c T e1 = passed-none _ _
+
+switch-misses-requires : tie.Need-switch-misses-requires Inv-loop μ-loop
+switch-misses-requires c κs = search needs
+
+returns : tie.Need-returns Inv-loop μ-loop
+returns c T e1 = sym (any-rows _ _ e1 ∙ any-at _ _ _ (c .before .before .loop-test .taken) (sym (c .before .switch-misses .ensures T e1) ∙ c .if1 .taken))
+
+add-i : tie.Need-add-i Inv-loop μ-loop
+add-i c = search needs
+
+loop-less : tie.Need-loop-less Inv-loop μ-loop
+loop-less c = search needs
+
+loop-again : tie.Need-loop-again Inv-loop μ-loop
+loop-again c T e1 = passed-more _ _ _ (c .before .before .before .loop .inv T e1) (c .before .before .loop-test .taken) (sym (c .before .switch-misses .ensures T e1) ∙ c .if1 .left)
+
+returns-2 : tie.Need-returns-2 Inv-loop μ-loop
+returns-2 c T e1 = sym (any-rows _ _ e1 ∙ passed-all _ _ _ (c .before .loop .inv T e1) (c .loop-test .left))
+
+pub some-switch-misses-spec : {M : Type 1} → statement M
+some-switch-misses-spec =
+    tie.close
+    (tie.spec
+    Inv-loop
+    μ-loop
+    loop-holds
+    switch-misses-requires
+    returns
+    add-i
+    loop-less
+    loop-again
+    returns-2)
