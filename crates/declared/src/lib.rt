@@ -1,0 +1,5 @@
+// Numbers 3, 4 and 5 as code: task ports, copies and mode ports, each row against the rows before it, so that a search finds the
+// later row of a clash.
+pub mod copies;
+pub mod mode_ports;
+pub mod task_ports;
