@@ -1,0 +1,71 @@
+-- `fields::ranges::interval_fits` meets its contract: each field read is the definition's column, and low and high came back through their bits. Assumes nothing.
+use mathlib.Core.Path.{_≡_, ap, _∙_}
+use lib.Signed.{leZ}
+use mir.Syntax.{w32}
+use mir.Val.{ofZ, toZ}
+use Rattle.cells.specs.Reading.{isMissing}
+use Rattle.cells.proofs.Ints.{back, back₂}
+use borrow.Author.Needs.{needs}
+use Rattle.rules.specs.Fields.{intervalFits}
+use Rattle.fields.proofs.ranges.interval_fits.Statement.{statement}
+use Rattle.fields.proofs.ranges.interval_fits.Tie as tie
+
+field-requires : tie.Need-field-requires
+field-requires c κs = search needs
+
+port-requires : tie.Need-port-requires
+port-requires c κs = search needs
+
+index-requires : tie.Need-index-requires
+index-requires c κs = search needs
+
+signed-requires : tie.Need-signed-requires
+signed-requires c κs = search needs
+
+signed-requires-2 : tie.Need-signed-requires-2
+signed-requires-2 c κs = search needs
+
+at-most-requires : tie.Need-at-most-requires
+at-most-requires c κs = search needs
+
+is-missing-requires : tie.Need-is-missing-requires
+is-missing-requires c κs = search needs
+
+is-missing-requires-2 : tie.Need-is-missing-requires-2
+is-missing-requires-2 c κs = search needs
+
+returns : tie.Need-returns
+unfolding intervalFits
+returns c T e1 e2 =
+    let low = c .before .before .before .before .signed in
+    let high = c .before .before .before .signed2 in
+    let ordered : c .before .before .at-most .result ≡ leZ (low .result) (high .result) =
+    c .before .before .at-most .ensures ∙ back₂ leZ (low .result) (high .result) (low .ok) (high .ok) in
+    let told-low : c .before .is-missing .result ≡ isMissing (toZ w32 (ofZ w32 (low .result))) = c .before .is-missing .ensures in
+    let told-high : c .is-missing2 .result ≡ isMissing (toZ w32 (ofZ w32 (high .result))) = c .is-missing2 .ensures in
+    simp (
+      told-high ∙ ap isMissing (back (high .result) (high .ok)),
+      told-low ∙ ap isMissing (back (low .result) (low .ok)),
+      ordered,
+      high .ensures,
+      low .ensures,
+      c .before .before .before .before .before .index .ensures,
+      c .before .before .before .before .before .before .port .ensures,
+      c .before .before .before .before .before .before .before .field .ensures,
+      e1,
+      e2,
+    )
+
+pub interval-fits-spec : {M : Type 1} → statement M
+interval-fits-spec =
+    tie.close
+    (tie.spec
+    field-requires
+    port-requires
+    index-requires
+    signed-requires
+    signed-requires-2
+    at-most-requires
+    is-missing-requires
+    is-missing-requires-2
+    returns)

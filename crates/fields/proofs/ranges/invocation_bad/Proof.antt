@@ -1,0 +1,61 @@
+-- `fields::ranges::invocation_bad` meets its contract: each field read is the definition's column. Assumes nothing.
+use borrow.Author.Needs.{needs}
+use Rattle.rules.specs.Fields.{invocationBad}
+use Rattle.fields.proofs.ranges.invocation_bad.Statement.{statement}
+use Rattle.fields.proofs.ranges.invocation_bad.Tie as tie
+
+mode-requires : tie.Need-mode-requires
+mode-requires c κs = search needs
+
+index-requires : tie.Need-index-requires
+index-requires c κs = search needs
+
+field-requires : tie.Need-field-requires
+field-requires c κs = search needs
+
+task-requires : tie.Need-task-requires
+task-requires c κs = search needs
+
+index-requires-2 : tie.Need-index-requires-2
+index-requires-2 c κs = search needs
+
+driver-requires : tie.Need-driver-requires
+driver-requires c κs = search needs
+
+index-requires-3 : tie.Need-index-requires-3
+index-requires-3 c κs = search needs
+
+in-range-requires : tie.Need-in-range-requires
+in-range-requires c κs = search needs
+
+returns : tie.Need-returns
+unfolding invocationBad
+returns c T e1 e2 e3 e4 =
+    simp (
+      c .in-range .ensures,
+      c .before .index3 .ensures,
+      c .before .before .driver .ensures,
+      c .before .before .before .index2 .ensures,
+      c .before .before .before .before .task .ensures,
+      c .before .before .before .before .before .field .ensures,
+      c .before .before .before .before .before .before .index .ensures,
+      c .before .before .before .before .before .before .before .mode .ensures,
+      e1,
+      e2,
+      e3,
+      e4,
+    )
+
+pub invocation-bad-spec : {M : Type 1} → statement M
+invocation-bad-spec =
+    tie.close
+    (tie.spec
+    mode-requires
+    index-requires
+    field-requires
+    task-requires
+    index-requires-2
+    driver-requires
+    index-requires-3
+    in-range-requires
+    returns)

@@ -1,0 +1,58 @@
+-- `fields::searches::first_bad_copy` meets its contract: the rows that the loop has passed are not bad. Assumes nothing.
+use Prim.Native.Nat.{_-_}
+use mathlib.Core.Path.{_≡_, sym, _∙_}
+use borrow.Author.Needs.{needs}
+use Rattle.theory.proofs.Search.{Passed, passed-none, passed-more, first-found, first-none}
+use Rattle.cells.proofs.Rows.{first-rows}
+use Rattle.program.specs.Tables.{Tables, copyWidth}
+use Rattle.rules.specs.Fields.{copyBad}
+use Rattle.fields.proofs.searches.first_bad_copy.Statement.{statement}
+use Rattle.fields.proofs.searches.first_bad_copy.Tie as tie
+
+abbrev Inv-loop : tie.InvT-loop
+Inv-loop ports drivers copies n i₀ i = (T : Tables) → T .ports ≡ ports → T .drivers ≡ drivers → T .copies ≡ copies → Passed (copyBad T) n i
+
+abbrev μ-loop : tie.MeasureT-loop
+μ-loop ports drivers copies n i₀ i = n - i
+
+loop-holds : tie.Need-loop-holds Inv-loop μ-loop
+loop-holds c T e1 e2 e3 = passed-none _ _
+
+copy-bad-requires : tie.Need-copy-bad-requires Inv-loop μ-loop
+copy-bad-requires c κs = search needs
+
+returns : tie.Need-returns Inv-loop μ-loop
+returns c T e1 e2 e3 =
+    first-found _ _ _
+    (c .before .before .before .loop .inv T e1 e2 e3) (c .before .before .loop-test .taken)
+    (sym (c .before .copy-bad .ensures T e1 e2 e3) ∙ c .if1 .taken)
+    ∙ sym (first-rows (copyBad T) copyWidth e3)
+
+add-i : tie.Need-add-i Inv-loop μ-loop
+add-i c = search needs
+
+loop-less : tie.Need-loop-less Inv-loop μ-loop
+loop-less c = search needs
+
+loop-again : tie.Need-loop-again Inv-loop μ-loop
+loop-again c T e1 e2 e3 =
+    passed-more _ _ _
+    (c .before .before .before .loop .inv T e1 e2 e3) (c .before .before .loop-test .taken)
+    (sym (c .before .copy-bad .ensures T e1 e2 e3) ∙ c .if1 .left)
+
+returns-2 : tie.Need-returns-2 Inv-loop μ-loop
+returns-2 c T e1 e2 e3 = first-none _ _ _ (c .before .loop .inv T e1 e2 e3) (c .loop-test .left) ∙ sym (first-rows (copyBad T) copyWidth e3)
+
+pub first-bad-copy-spec : {M : Type 1} → statement M
+first-bad-copy-spec =
+    tie.close
+    (tie.spec
+    Inv-loop
+    μ-loop
+    loop-holds
+    copy-bad-requires
+    returns
+    add-i
+    loop-less
+    loop-again
+    returns-2)

@@ -1,0 +1,140 @@
+// Does a driver read a port that it may not?
+ghost use mathlib.Core.Path.{_≡_};
+ghost use mathlib.Core.Bool.{not};
+ghost use lib.Dec.{eqb};
+ghost use Rattle.theory.specs.Search.{any};
+ghost use Rattle.program.specs.Tables.{Tables, guardKind, kindInterval, copyCount};
+ghost use Rattle.program.specs.Sets.{isModePort};
+ghost use Rattle.rules.specs.Modes.{sourceWith, someSource, unread};
+use crate::copies::own_copy;
+use cells::columns::copy;
+use cells::columns::driver;
+use cells::columns::port;
+use cells::kinds::Driver;
+use cells::kinds::Mode;
+use cells::kinds::Port;
+use cells::table;
+use program::members;
+
+// Port p is neither a port of mode m nor a sensor.
+pub fn unread(ports: &[i32], mode_ports: &[i32], m: Mode, p: Port) -> bool
+    ensures { λ r. ⌜ ((T : Tables) → T .ports ≡ now (ports .entry) → T .modePorts ≡ now («mode_ports» .entry) → r ≡ unread T (m .0) (p .0)) ⌝ }
+{
+    if members::is_kind(ports, port::SENSOR, p) {
+        return false;
+    }
+    !members::is_mode_port(mode_ports, m, p)
+}
+
+// The guard of driver d is an interval.
+pub fn is_interval(drivers: &[i32], d: Driver) -> bool
+    ensures { λ r. ⌜ ((T : Tables) → T .drivers ≡ now (drivers .entry) → r ≡ eqb (guardKind T (d .0)) kindInterval) ⌝ }
+{
+    table::field(drivers, driver::WIDTH, d.index(), driver::KIND) == driver::INTERVAL
+}
+
+// Row c is a copy of driver d from a port that mode m does not let it read.
+pub fn source_unread(
+    ports: &[i32],
+    copies: &[i32],
+    mode_ports: &[i32],
+    m: Mode,
+    d: Driver,
+    c: usize,
+) -> bool
+    ensures { λ r. ⌜ ((T : Tables) → T .ports ≡ now (ports .entry) → T .copies ≡ now (copies .entry) → T .modePorts ≡ now («mode_ports» .entry) → r ≡ sourceWith T (unread T (m .0)) (d .0) c) ⌝ }
+{
+    if own_copy(copies, d, c) {
+        let p = table::port(copies, copy::WIDTH, c, copy::SOURCE);
+        return unread(ports, mode_ports, m, p);
+    }
+    false
+}
+
+// Some copy of driver d is.
+pub fn some_copy_unread(
+    ports: &[i32],
+    copies: &[i32],
+    mode_ports: &[i32],
+    m: Mode,
+    d: Driver,
+) -> bool
+    ensures { λ r. ⌜ ((T : Tables) → T .ports ≡ now (ports .entry) → T .copies ≡ now (copies .entry) → T .modePorts ≡ now («mode_ports» .entry) → r ≡ any (sourceWith T (unread T (m .0)) (d .0)) (copyCount T)) ⌝ }
+{
+    let n = copies.len() / copy::WIDTH;
+    let mut c = 0;
+    while c < n {
+        if source_unread(ports, copies, mode_ports, m, d, c) {
+            return true;
+        }
+        c += 1;
+    }
+    false
+}
+
+// Some source of driver d is: a copy's, or its interval guard's port.
+pub fn some_source_unread(
+    ports: &[i32],
+    drivers: &[i32],
+    copies: &[i32],
+    mode_ports: &[i32],
+    m: Mode,
+    d: Driver,
+) -> bool
+    ensures { λ r. ⌜ ((T : Tables) → T .ports ≡ now (ports .entry) → T .drivers ≡ now (drivers .entry) → T .copies ≡ now (copies .entry) → T .modePorts ≡ now («mode_ports» .entry) → r ≡ someSource T (unread T (m .0)) (d .0)) ⌝ }
+{
+    if some_copy_unread(ports, copies, mode_ports, m, d) {
+        return true;
+    }
+    if is_interval(drivers, d) {
+        let p = table::port(drivers, driver::WIDTH, d.index(), driver::PORT);
+        return unread(ports, mode_ports, m, p);
+    }
+    false
+}
+
+// Row c is a copy of driver d from a port that is none of mode m.
+pub fn source_undeclared(copies: &[i32], mode_ports: &[i32], m: Mode, d: Driver, c: usize) -> bool
+    ensures { λ r. ⌜ ((T : Tables) → T .copies ≡ now (copies .entry) → T .modePorts ≡ now («mode_ports» .entry) → r ≡ sourceWith T (λ p. not (isModePort T (m .0) p)) (d .0) c) ⌝ }
+{
+    if own_copy(copies, d, c) {
+        let p = table::port(copies, copy::WIDTH, c, copy::SOURCE);
+        return !members::is_mode_port(mode_ports, m, p);
+    }
+    false
+}
+
+// Some copy of driver d is.
+pub fn some_copy_undeclared(copies: &[i32], mode_ports: &[i32], m: Mode, d: Driver) -> bool
+    ensures { λ r. ⌜ ((T : Tables) → T .copies ≡ now (copies .entry) → T .modePorts ≡ now («mode_ports» .entry) → r ≡ any (sourceWith T (λ p. not (isModePort T (m .0) p)) (d .0)) (copyCount T)) ⌝ }
+{
+    let n = copies.len() / copy::WIDTH;
+    let mut c = 0;
+    while c < n {
+        if source_undeclared(copies, mode_ports, m, d, c) {
+            return true;
+        }
+        c += 1;
+    }
+    false
+}
+
+// Some source of driver d is no port of mode m: a copy's, or its interval guard's port.
+pub fn some_source_undeclared(
+    drivers: &[i32],
+    copies: &[i32],
+    mode_ports: &[i32],
+    m: Mode,
+    d: Driver,
+) -> bool
+    ensures { λ r. ⌜ ((T : Tables) → T .drivers ≡ now (drivers .entry) → T .copies ≡ now (copies .entry) → T .modePorts ≡ now («mode_ports» .entry) → r ≡ someSource T (λ p. not (isModePort T (m .0) p)) (d .0)) ⌝ }
+{
+    if some_copy_undeclared(copies, mode_ports, m, d) {
+        return true;
+    }
+    if is_interval(drivers, d) {
+        let p = table::port(drivers, driver::WIDTH, d.index(), driver::PORT);
+        return !members::is_mode_port(mode_ports, m, p);
+    }
+    false
+}

@@ -1,0 +1,23 @@
+-- `modes::invocations::one_mode` meets its contract: the two rows say their modes. Assumes nothing.
+use borrow.Author.Needs.{needs}
+use Rattle.modes.proofs.invocations.one_mode.Statement.{statement}
+use Rattle.modes.proofs.invocations.one_mode.Tie as tie
+
+mode-requires : tie.Need-mode-requires
+mode-requires c κs = search needs
+
+mode-requires-2 : tie.Need-mode-requires-2
+mode-requires-2 c κs = search needs
+
+index-requires : tie.Need-index-requires
+index-requires c κs = search needs
+
+index-requires-2 : tie.Need-index-requires-2
+index-requires-2 c κs = search needs
+
+returns : tie.Need-returns
+returns c T e = simp (c .index2 .ensures, c .before .index .ensures, c .before .before .mode2 .ensures, c .before .before .before .mode .ensures, e)
+
+pub one-mode-spec : {M : Type 1} → statement M
+one-mode-spec =
+    tie.close (tie.spec mode-requires mode-requires-2 index-requires index-requires-2 returns)

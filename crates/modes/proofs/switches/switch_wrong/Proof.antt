@@ -1,0 +1,43 @@
+-- `modes::switches::switch_wrong` meets its contract: each part of the rule is asked of the row. Assumes nothing.
+use Rattle.rules.specs.Modes.{switchWrong}
+use borrow.Author.Needs.{needs}
+use Rattle.modes.proofs.switches.switch_wrong.Statement.{statement}
+use Rattle.modes.proofs.switches.switch_wrong.Tie as tie
+
+mode-requires : tie.Need-mode-requires
+mode-requires c κs = search needs
+
+mode-requires-2 : tie.Need-mode-requires-2
+mode-requires-2 c κs = search needs
+
+driver-requires : tie.Need-driver-requires
+driver-requires c κs = search needs
+
+some-source-unread-requires : tie.Need-some-source-unread-requires
+some-source-unread-requires c κs = search needs
+
+some-destination-undeclared-requires : tie.Need-some-destination-undeclared-requires
+some-destination-undeclared-requires c κs = search needs
+
+some-port-unset-requires : tie.Need-some-port-unset-requires
+some-port-unset-requires c κs = search needs
+
+has-switch-clash-requires : tie.Need-has-switch-clash-requires
+has-switch-clash-requires c κs = search needs
+
+returns : tie.Need-returns
+unfolding switchWrong
+returns c T e1 e2 e3 e4 e5 = simp (c .has-switch-clash .ensures T e2 e5, c .before .some-port-unset .ensures T e3 e4, c .before .before .some-destination-undeclared .ensures T e3 e4, c .before .before .before .some-source-unread .ensures T e1 e2 e3 e4, c .before .before .before .before .driver .ensures, c .before .before .before .before .before .mode2 .ensures, c .before .before .before .before .before .before .mode .ensures, ← e5)
+
+pub switch-wrong-spec : {M : Type 1} → statement M
+switch-wrong-spec =
+    tie.close
+    (tie.spec
+    mode-requires
+    mode-requires-2
+    driver-requires
+    some-source-unread-requires
+    some-destination-undeclared-requires
+    some-port-unset-requires
+    has-switch-clash-requires
+    returns)

@@ -1,0 +1,89 @@
+// Number 8: what a switch row breaks, by itself and against the rows before it.
+ghost use mathlib.Core.Path.{_≡_};
+ghost use lib.Dec.{eqb};
+ghost use Rattle.theory.specs.Search.{any, first};
+ghost use Rattle.program.specs.Tables.{Tables, swMode, switchCount};
+ghost use Rattle.rules.specs.Modes.{switchClash, switchWrong};
+use cells::columns::switch;
+use cells::table;
+use links::destinations;
+use links::mode_ports;
+use links::sources;
+use program::guard;
+
+// Rows i and j are of one mode.
+pub fn one_mode(switches: &[i32], i: usize, j: usize) -> bool
+    ensures { λ r. ⌜ ((T : Tables) → T .switches ≡ now (switches .entry) → r ≡ eqb (swMode T j) (swMode T i)) ⌝ }
+{
+    let m = table::mode(switches, switch::WIDTH, i, switch::MODE);
+    let n = table::mode(switches, switch::WIDTH, j, switch::MODE);
+    n.index() == m.index()
+}
+
+// The guards of rows i and j of one mode can hold for one valuation.
+pub fn switch_clash(drivers: &[i32], switches: &[i32], i: usize, j: usize) -> bool
+    ensures { λ r. ⌜ ((T : Tables) → T .drivers ≡ now (drivers .entry) → T .switches ≡ now (switches .entry) → r ≡ switchClash T i j) ⌝ }
+{
+    if one_mode(switches, i, j) {
+        let d = table::driver(switches, switch::WIDTH, i, switch::DRIVER);
+        let e = table::driver(switches, switch::WIDTH, j, switch::DRIVER);
+        return guard::guards_meet(drivers, e, d);
+    }
+    false
+}
+
+// A row before row i clashes with it.
+pub fn has_switch_clash(drivers: &[i32], switches: &[i32], i: usize) -> bool
+    ensures { λ r. ⌜ ((T : Tables) → T .drivers ≡ now (drivers .entry) → T .switches ≡ now (switches .entry) → r ≡ any (switchClash T i) i) ⌝ }
+{
+    let mut j = 0;
+    while j < i {
+        if switch_clash(drivers, switches, i, j) {
+            return true;
+        }
+        j += 1;
+    }
+    false
+}
+
+// Row i breaks the rule.
+pub fn switch_wrong(
+    ports: &[i32],
+    drivers: &[i32],
+    copies: &[i32],
+    mode_ports: &[i32],
+    switches: &[i32],
+    i: usize,
+) -> bool
+    ensures { λ r. ⌜ ((T : Tables) → T .ports ≡ now (ports .entry) → T .drivers ≡ now (drivers .entry) → T .copies ≡ now (copies .entry) → T .modePorts ≡ now («mode_ports» .entry) → T .switches ≡ now (switches .entry) → r ≡ switchWrong T i) ⌝ }
+{
+    let m = table::mode(switches, switch::WIDTH, i, switch::MODE);
+    let target = table::mode(switches, switch::WIDTH, i, switch::TARGET);
+    let d = table::driver(switches, switch::WIDTH, i, switch::DRIVER);
+    let sources = sources::some_source_unread(ports, drivers, copies, mode_ports, m, d);
+    let destinations = destinations::some_destination_undeclared(copies, mode_ports, target, d);
+    let unset = mode_ports::some_port_unset(copies, mode_ports, d, target);
+    let clash = has_switch_clash(drivers, switches, i);
+    sources | destinations | unset | clash
+}
+
+// The lowest row that does; the number of rows where none does.
+pub fn first_wrong_switch(
+    ports: &[i32],
+    drivers: &[i32],
+    copies: &[i32],
+    mode_ports: &[i32],
+    switches: &[i32],
+) -> usize
+    ensures { λ r. ⌜ ((T : Tables) → T .ports ≡ now (ports .entry) → T .drivers ≡ now (drivers .entry) → T .copies ≡ now (copies .entry) → T .modePorts ≡ now («mode_ports» .entry) → T .switches ≡ now (switches .entry) → r ≡ first (switchWrong T) (switchCount T)) ⌝ }
+{
+    let n = switches.len() / switch::WIDTH;
+    let mut i = 0;
+    while i < n {
+        if switch_wrong(ports, drivers, copies, mode_ports, switches, i) {
+            return i;
+        }
+        i += 1;
+    }
+    n
+}
