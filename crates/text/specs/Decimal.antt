@@ -56,3 +56,14 @@ negative (some (suc n)) = elim (leb n farthest) [ true ↦ some (negsuc n) | fal
 abbrev pub number : List ℕ → Option ℤ
 number [] = none
 number (b ∷ bs) = elim (eqb b minus) [ true ↦ negative (magnitude bs) | false ↦ notNegative (magnitude (b ∷ bs)) ]
+
+-- a number of 32 bits that is not negative: digits only
+abbrev pub greatestWord : ℕ
+greatestWord = 4294967295
+
+abbrev pub asWord : Option ℕ → Option ℕ
+asWord none = none
+asWord (some n) = elim (leb n greatestWord) [ true ↦ some n | false ↦ none ]
+
+abbrev pub wordOf : List ℕ → Option ℕ
+wordOf line = asWord (magnitude line)

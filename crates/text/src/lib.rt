@@ -1,0 +1,2 @@
+// Text: numbers out of bytes.
+pub mod number;

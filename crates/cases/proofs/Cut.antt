@@ -1,0 +1,25 @@
+-- A slice that is longer than a buffer of one row more than the limit is number 1, whole and cut to the buffer. Assumes nothing.
+use Prim.Native.Nat.{ℕ, _+_, _*_, _/_, _%_, _≤_, _<_}
+use mathlib.Core.Path.{_≡_}
+use mathlib.Core.Bool.{true, not, or-true}
+use mathlib.Core.List.{List}
+use native.Mathlib.Nat.{le-div-iff-mul-le}
+use native.Mathlib.Omega.{arith}
+use lib.Dec.{eqb, ltb}
+use lib.ListN.{length, take, length-take}
+use borrow.Author.Tests.{lt-ltb}
+use Rattle.rules.specs.Shape.{badSlice}
+
+module _ {A : Type 0} (width limit : ℕ) (some : 1 ≤ width) where
+  -- one row more than the limit is too many
+  pub too-long : (t : List A) → (limit + 1) * width ≤ length t → badSlice width limit t ≡ true
+  unfolding badSlice
+  too-long t h =
+      let rows : limit + 1 ≤ length t / width = le-div-iff-mul-le some .1 h in
+      let more : ltb limit (length t / width) ≡ true = lt-ltb limit (length t / width) (omega arith) in
+      simp more (or-true (not (eqb (length t % width) 0)))
+
+  -- and so is what a buffer of so many rows, or more, keeps of it
+  pub cut-too-long : (cap : ℕ) (t : List A) → (limit + 1) * width ≤ cap → cap < length t
+      → (badSlice width limit (take cap t) ≡ true) × (badSlice width limit t ≡ true)
+  cut-too-long cap t h l = (too-long (take cap t) (simp length-take (omega arith)), too-long t (omega arith))

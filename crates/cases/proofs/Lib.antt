@@ -1,0 +1,2 @@
+-- Why a table may be cut to its buffer.
+pub mod Cut

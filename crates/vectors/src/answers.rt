@@ -1,0 +1,81 @@
+// The cases of one file, by its kind.
+use crate::kind;
+use crate::out;
+use crate::verdicts;
+use cases::numbers;
+use cases::stream;
+use cases::stream::Reader;
+
+// What became of a case: whether its kind is known, and whether its line could be written.
+pub struct Answer {
+    pub reader: Reader,
+    pub known: bool,
+    pub written: bool,
+}
+
+// The next case, answered. A refused reader reads nothing, and nothing is printed for it.
+fn case(kind: &[u8], r: Reader, buffer: &mut [u8]) -> Answer {
+    if check::same(kind, b"verdict") {
+        return verdicts::case(r, buffer);
+    }
+    Answer {
+        reader: r,
+        known: false,
+        written: true,
+    }
+}
+
+// So many cases, and nothing after them.
+fn each(kind: &[u8], r: Reader, buffer: &mut [u8], n: usize) -> Answer {
+    let mut reader = r;
+    let mut i = 0;
+    while i < n {
+        let answer = case(kind, reader, buffer);
+        reader = answer.reader;
+        if !reader.ok | !answer.written {
+            return answer;
+        }
+        i += 1;
+    }
+    let end = numbers::finish(reader, buffer);
+    Answer {
+        reader: end,
+        known: true,
+        written: true,
+    }
+}
+
+// An open file.
+fn opened(kind: &[u8], name: &[u8], fd: i32, buffer: &mut [u8]) -> bool {
+    let amount = numbers::count(stream::open(fd), buffer);
+    let answer = each(kind, amount.reader, buffer, amount.value);
+    if !answer.written {
+        return false;
+    }
+    let reader = answer.reader;
+    if reader.failed {
+        os::fail(name);
+    }
+    if reader.ok {
+        return true;
+    }
+    out::say(b"bad input: ", name)
+}
+
+// The file of this name; false where a write failed. A case of a refused reader tells whether the kind is known.
+pub fn file(name: &[u8]) -> bool {
+    let mut buffer = io::buffer();
+    let kind = kind::of(name);
+    let asked = case(kind, stream::refused(stream::open(0)), &mut buffer);
+    if !asked.known {
+        return out::say(b"unknown kind: ", name);
+    }
+    let fd = os::open_read(name);
+    if fd < 0 {
+        os::fail(name);
+        return out::say(b"no file: ", name);
+    }
+    let written = opened(kind, name, fd, &mut buffer);
+    libc::close(fd);
+    written
+}
