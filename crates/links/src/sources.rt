@@ -1,9 +1,8 @@
 // Does a driver read a port that it may not?
 ghost use mathlib.Core.Path.{_≡_};
 ghost use mathlib.Core.Bool.{not};
-ghost use lib.Dec.{eqb};
 ghost use Rattle.theory.specs.Search.{any};
-ghost use Rattle.program.specs.Tables.{Tables, guardKind, kindInterval, copyCount};
+ghost use Rattle.program.specs.Tables.{Tables, copyCount};
 ghost use Rattle.program.specs.Sets.{isModePort};
 ghost use Rattle.rules.specs.Modes.{sourceWith, someSource, unread};
 use crate::copies::own_copy;
@@ -14,6 +13,7 @@ use cells::kinds::Driver;
 use cells::kinds::Mode;
 use cells::kinds::Port;
 use cells::table;
+use program::guard;
 use program::members;
 
 // Port p is neither a port of mode m nor a sensor.
@@ -24,13 +24,6 @@ pub fn unread(ports: &[i32], mode_ports: &[i32], m: Mode, p: Port) -> bool
         return false;
     }
     !members::is_mode_port(mode_ports, m, p)
-}
-
-// The guard of driver d is an interval.
-pub fn is_interval(drivers: &[i32], d: Driver) -> bool
-    ensures { λ r. ⌜ ((T : Tables) → T .drivers ≡ now (drivers .entry) → r ≡ eqb (guardKind T (d .0)) kindInterval) ⌝ }
-{
-    table::field(drivers, driver::WIDTH, d.index(), driver::KIND) == driver::INTERVAL
 }
 
 // Row c is a copy of driver d from a port that mode m does not let it read.
@@ -86,7 +79,7 @@ pub fn some_source_unread(
     if some_copy_unread(ports, copies, mode_ports, m, d) {
         return true;
     }
-    if is_interval(drivers, d) {
+    if guard::is_interval(drivers, d) {
         let p = table::port(drivers, driver::WIDTH, d.index(), driver::PORT);
         return unread(ports, mode_ports, m, p);
     }
@@ -132,7 +125,7 @@ pub fn some_source_undeclared(
     if some_copy_undeclared(copies, mode_ports, m, d) {
         return true;
     }
-    if is_interval(drivers, d) {
+    if guard::is_interval(drivers, d) {
         let p = table::port(drivers, driver::WIDTH, d.index(), driver::PORT);
         return !members::is_mode_port(mode_ports, m, p);
     }

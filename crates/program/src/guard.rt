@@ -2,7 +2,7 @@
 ghost use mathlib.Core.Path.{_≡_};
 ghost use lib.Dec.{eqb};
 ghost use lib.Signed.{leZ};
-ghost use Rattle.program.specs.Tables.{Tables, guardKind, guardLow, guardHigh, kindAlways};
+ghost use Rattle.program.specs.Tables.{Tables, guardKind, guardPort, guardLow, guardHigh, kindAlways, kindInterval};
 ghost use Rattle.program.specs.Guard.{guardOf, meet};
 use cells::columns::driver;
 use cells::kinds::Driver;
@@ -14,6 +14,22 @@ pub fn is_always(drivers: &[i32], d: Driver) -> bool
     ensures { λ r. ⌜ ((T : Tables) → T .drivers ≡ now (drivers .entry) → r ≡ eqb (guardKind T (d .0)) kindAlways) ⌝ }
 {
     table::field(drivers, driver::WIDTH, d.index(), driver::KIND) == driver::ALWAYS
+}
+
+// The guard of driver d is an interval.
+pub fn is_interval(drivers: &[i32], d: Driver) -> bool
+    ensures { λ r. ⌜ ((T : Tables) → T .drivers ≡ now (drivers .entry) → r ≡ eqb (guardKind T (d .0)) kindInterval) ⌝ }
+{
+    table::field(drivers, driver::WIDTH, d.index(), driver::KIND) == driver::INTERVAL
+}
+
+// The guards of drivers d and e ask one port.
+pub fn one_port(drivers: &[i32], d: Driver, e: Driver) -> bool
+    ensures { λ r. ⌜ ((T : Tables) → T .drivers ≡ now (drivers .entry) → r ≡ eqb (guardPort T (d .0)) (guardPort T (e .0))) ⌝ }
+{
+    let p = table::port(drivers, driver::WIDTH, d.index(), driver::PORT);
+    let q = table::port(drivers, driver::WIDTH, e.index(), driver::PORT);
+    p.index() == q.index()
 }
 
 // The interval of d begins no later than that of e ends.
@@ -35,8 +51,6 @@ pub fn guards_meet(drivers: &[i32], d: Driver, e: Driver) -> bool
     if is_always(drivers, e) {
         return true;
     }
-    let p = table::port(drivers, driver::WIDTH, d.index(), driver::PORT);
-    let q = table::port(drivers, driver::WIDTH, e.index(), driver::PORT);
-    let apart = !(p.index() == q.index());
+    let apart = !one_port(drivers, d, e);
     apart | (begins_in_time(drivers, d, e) & begins_in_time(drivers, e, d))
 }

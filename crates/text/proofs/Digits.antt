@@ -1,6 +1,6 @@
 -- The digits: which bytes they are.
 -- Assumes nothing.
-use Prim.Native.Nat.{ℕ, _-_, _<_, _≤_}
+use Prim.Native.Nat.{ℕ, _+_, _-_, _<_, _≤_}
 use mathlib.Core.Path.{_≡_}
 use mathlib.Core.Bool.{true}
 use native.Mathlib.Omega.{arith}
@@ -9,8 +9,8 @@ use Rattle.theory.proofs.Bools.{says-le, says-lt, says-and}
 use Rattle.text.specs.Decimal.{digitZero}
 use Rattle.text.specs.Part.{isDigit}
 
-pub digit-says : (b : ℕ) → Says (isDigit b) ((digitZero ≤ b) × (b < 58))
-digit-says b = says-and (says-le digitZero b) (says-lt b 58)
+pub digit-says : (b : ℕ) → Says (isDigit b) ((digitZero ≤ b) × (b < digitZero + 10))
+digit-says b = says-and (says-le digitZero b) (says-lt b (digitZero + 10))
 
 pub digit-from : (b : ℕ) → isDigit b ≡ true → digitZero ≤ b
 digit-from b e = digit-says b .yes e .0

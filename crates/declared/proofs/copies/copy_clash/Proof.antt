@@ -1,4 +1,5 @@
 -- `declared::copies::copy_clash` meets its contract: the search of the rows before it. Assumes nothing.
+use mathlib.Core.Path.{refl}
 use Rattle.rules.specs.Declared.{copyClash}
 use borrow.Author.Needs.{needs}
 use Rattle.declared.proofs.copies.copy_clash.Statement.{statement}
@@ -15,7 +16,7 @@ has-copy-to-requires c κs = search needs
 
 returns : tie.Need-returns
 unfolding copyClash
-returns c T e = simp (c .has-copy-to .ensures T e, c .before .port .ensures, c .before .before .driver .ensures, e)
+returns c T e = simp (c .has-copy-to .ensures T e, c .before .port .ensures, c .before .before .driver .ensures, e) refl
 
 pub copy-clash-spec : {M : Type 1} → statement M
 copy-clash-spec = tie.close (tie.spec driver-requires port-requires has-copy-to-requires returns)

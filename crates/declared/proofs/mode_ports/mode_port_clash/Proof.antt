@@ -1,4 +1,5 @@
 -- `declared::mode_ports::mode_port_clash` meets its contract: the search of the rows before it, and the kind of its port. Assumes nothing.
+use mathlib.Core.Path.{refl}
 use Rattle.rules.specs.Declared.{modePortClash}
 use borrow.Author.Needs.{needs}
 use Rattle.declared.proofs.mode_ports.mode_port_clash.Statement.{statement}
@@ -18,7 +19,7 @@ is-kind-requires c κs = search needs
 
 returns : tie.Need-returns
 unfolding modePortClash
-returns c T e f = simp (c .is-kind .ensures T e, c .before .has-mode-port .ensures T f, c .before .before .port .ensures, c .before .before .before .mode .ensures, f)
+returns c T e f = simp (c .is-kind .ensures T e, c .before .has-mode-port .ensures T f, c .before .before .port .ensures, c .before .before .before .mode .ensures, f) refl
 
 pub mode-port-clash-spec : {M : Type 1} → statement M
 mode-port-clash-spec =

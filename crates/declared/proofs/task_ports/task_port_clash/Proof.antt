@@ -1,4 +1,5 @@
 -- `declared::task_ports::task_port_clash` meets its contract: the searches of the rows before it, and the kind of its port. Assumes nothing.
+use mathlib.Core.Path.{refl}
 use Rattle.rules.specs.Declared.{taskPortClash}
 use borrow.Author.Needs.{needs}
 use Rattle.declared.proofs.task_ports.task_port_clash.Statement.{statement}
@@ -27,7 +28,7 @@ has-same-port-requires c κs = search needs
 
 returns : tie.Need-returns
 unfolding taskPortClash
-returns c T e f = simp (c .has-same-port .ensures T f, c .before .is-kind3 .ensures T e, c .before .before .is-kind2 .ensures T e, c .before .before .before .is-kind .ensures T e, c .before .before .before .before .has-task-port .ensures T f, c .before .before .before .before .before .port .ensures, c .before .before .before .before .before .before .task .ensures, f)
+returns c T e f = simp (c .has-same-port .ensures T f, c .before .is-kind3 .ensures T e, c .before .before .is-kind2 .ensures T e, c .before .before .before .is-kind .ensures T e, c .before .before .before .before .has-task-port .ensures T f, c .before .before .before .before .before .port .ensures, c .before .before .before .before .before .before .task .ensures, f) refl
 
 pub task-port-clash-spec : {M : Type 1} → statement M
 task-port-clash-spec =

@@ -1,6 +1,6 @@
 -- `links::task_ports::output_shared` meets its contract: the other task is asked only of outputs of the task. Assumes nothing.
 use Rattle.rules.specs.Modes.{outputWith}
-use mathlib.Core.Path.{sym, _∙_}
+use mathlib.Core.Path.{refl, sym, _∙_}
 use borrow.Author.Needs.{needs}
 use Rattle.links.proofs.task_ports.output_shared.Statement.{statement}
 use Rattle.links.proofs.task_ports.output_shared.Tie as tie
@@ -16,7 +16,7 @@ is-output-requires c κs = search needs
 
 returns : tie.Need-returns
 unfolding outputWith
-returns c T e1 e2 = simp (c .is-output .ensures T e1 e2, c .before .port .ensures, sym (c .before .before .before .own-port .ensures T e1 e2) ∙ c .before .before .if1 .taken, ← e2)
+returns c T e1 e2 = simp (c .is-output .ensures T e1 e2, c .before .port .ensures, sym (c .before .before .before .own-port .ensures T e1 e2) ∙ c .before .before .if1 .taken, ← e2) refl
 
 returns-2 : tie.Need-returns-2
 unfolding outputWith

@@ -1,6 +1,6 @@
 -- `modes::invocations::invocation_clash` meets its contract: the test is made only for two rows of one mode. Assumes nothing.
 use Rattle.rules.specs.Modes.{invocationClash}
-use mathlib.Core.Path.{sym, _∙_}
+use mathlib.Core.Path.{refl, sym, _∙_}
 use borrow.Author.Needs.{needs}
 use Rattle.modes.proofs.invocations.invocation_clash.Statement.{statement}
 use Rattle.modes.proofs.invocations.invocation_clash.Tie as tie
@@ -25,7 +25,7 @@ some-output-shared-requires c κs = search needs
 
 returns : tie.Need-returns
 unfolding invocationClash
-returns c T e f g = simp (c .some-output-shared .ensures T e f, c .before .index2 .ensures, c .before .before .index .ensures, c .before .before .before .task2 .ensures, c .before .before .before .before .task .ensures, ← g, sym (c .before .before .before .before .before .before .one-mode .ensures T g) ∙ c .before .before .before .before .before .if1 .taken)
+returns c T e f g = simp (c .some-output-shared .ensures T e f, c .before .index2 .ensures, c .before .before .index .ensures, c .before .before .before .task2 .ensures, c .before .before .before .before .task .ensures, ← g, sym (c .before .before .before .before .before .before .one-mode .ensures T g) ∙ c .before .before .before .before .before .if1 .taken) refl
 
 returns-2 : tie.Need-returns-2
 unfolding invocationClash

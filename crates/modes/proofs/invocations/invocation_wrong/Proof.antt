@@ -1,4 +1,5 @@
 -- `modes::invocations::invocation_wrong` meets its contract: each part of the rule is asked of the row. Assumes nothing.
+use mathlib.Core.Path.{refl}
 use Rattle.rules.specs.Modes.{invocationWrong}
 use borrow.Author.Needs.{needs}
 use Rattle.modes.proofs.invocations.invocation_wrong.Statement.{statement}
@@ -33,7 +34,7 @@ has-invocation-clash-requires c κs = search needs
 
 returns : tie.Need-returns
 unfolding invocationWrong
-returns c T e1 e2 e3 e4 e5 e6 = simp (c .has-invocation-clash .ensures T e1 e2 e6, c .before .is-always .ensures T e3, c .before .before .some-input-unset .ensures T e1 e2 e4, c .before .before .before .some-destination-no-input .ensures T e1 e2 e4, c .before .before .before .before .some-source-unread .ensures T e1 e3 e4 e5, c .before .before .before .before .before .some-output-undeclared .ensures T e1 e2 e5, c .before .before .before .before .before .before .driver .ensures, c .before .before .before .before .before .before .before .task .ensures, c .before .before .before .before .before .before .before .before .mode .ensures, ← e6)
+returns c T e1 e2 e3 e4 e5 e6 = simp (c .has-invocation-clash .ensures T e1 e2 e6, c .before .is-always .ensures T e3, c .before .before .some-input-unset .ensures T e1 e2 e4, c .before .before .before .some-destination-no-input .ensures T e1 e2 e4, c .before .before .before .before .some-source-unread .ensures T e1 e3 e4 e5, c .before .before .before .before .before .some-output-undeclared .ensures T e1 e2 e5, c .before .before .before .before .before .before .driver .ensures, c .before .before .before .before .before .before .before .task .ensures, c .before .before .before .before .before .before .before .before .mode .ensures, ← e6) refl
 
 pub invocation-wrong-spec : {M : Type 1} → statement M
 invocation-wrong-spec =

@@ -1,6 +1,6 @@
 -- `modes::switches::switch_clash` meets its contract: the test is made only for two rows of one mode. Assumes nothing.
 use Rattle.rules.specs.Modes.{switchClash}
-use mathlib.Core.Path.{sym, _∙_}
+use mathlib.Core.Path.{refl, sym, _∙_}
 use borrow.Author.Needs.{needs}
 use Rattle.modes.proofs.switches.switch_clash.Statement.{statement}
 use Rattle.modes.proofs.switches.switch_clash.Tie as tie
@@ -19,7 +19,7 @@ guards-meet-requires c κs = search needs
 
 returns : tie.Need-returns
 unfolding switchClash
-returns c T e f = simp (c .guards-meet .ensures T e, c .before .driver2 .ensures, c .before .before .driver .ensures, ← f, sym (c .before .before .before .before .one-mode .ensures T f) ∙ c .before .before .before .if1 .taken)
+returns c T e f = simp (c .guards-meet .ensures T e, c .before .driver2 .ensures, c .before .before .driver .ensures, ← f, sym (c .before .before .before .before .one-mode .ensures T f) ∙ c .before .before .before .if1 .taken) refl
 
 returns-2 : tie.Need-returns-2
 unfolding switchClash

@@ -1,4 +1,5 @@
 -- `modes::switches::switch_wrong` meets its contract: each part of the rule is asked of the row. Assumes nothing.
+use mathlib.Core.Path.{refl}
 use Rattle.rules.specs.Modes.{switchWrong}
 use borrow.Author.Needs.{needs}
 use Rattle.modes.proofs.switches.switch_wrong.Statement.{statement}
@@ -27,7 +28,7 @@ has-switch-clash-requires c κs = search needs
 
 returns : tie.Need-returns
 unfolding switchWrong
-returns c T e1 e2 e3 e4 e5 = simp (c .has-switch-clash .ensures T e2 e5, c .before .some-port-unset .ensures T e3 e4, c .before .before .some-destination-undeclared .ensures T e3 e4, c .before .before .before .some-source-unread .ensures T e1 e2 e3 e4, c .before .before .before .before .driver .ensures, c .before .before .before .before .before .mode2 .ensures, c .before .before .before .before .before .before .mode .ensures, ← e5)
+returns c T e1 e2 e3 e4 e5 = simp (c .has-switch-clash .ensures T e2 e5, c .before .some-port-unset .ensures T e3 e4, c .before .before .some-destination-undeclared .ensures T e3 e4, c .before .before .before .some-source-unread .ensures T e1 e2 e3 e4, c .before .before .before .before .driver .ensures, c .before .before .before .before .before .mode2 .ensures, c .before .before .before .before .before .before .mode .ensures, ← e5) refl
 
 pub switch-wrong-spec : {M : Type 1} → statement M
 switch-wrong-spec =

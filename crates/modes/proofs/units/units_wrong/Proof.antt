@@ -1,4 +1,5 @@
 -- `modes::units::units_wrong` meets its contract: the units, and the period that they divide. Assumes nothing.
+use mathlib.Core.Path.{refl}
 use Rattle.rules.specs.Timing.{unitsWrong}
 use borrow.Author.Needs.{needs}
 use Rattle.modes.proofs.units.units_wrong.Statement.{statement}
@@ -18,7 +19,7 @@ misses-requires c κs = search needs
 
 returns : tie.Need-returns
 unfolding unitsWrong
-returns c T e f g h = simp (c .misses .ensures, c .before .field .ensures, c .before .before .index .ensures, c .before .before .before .units .ensures T f g h, e)
+returns c T e f g h = simp (c .misses .ensures, c .before .field .ensures, c .before .before .index .ensures, c .before .before .before .units .ensures T f g h, e) refl
 
 pub units-wrong-spec : {M : Type 1} → statement M
 units-wrong-spec =

@@ -1,6 +1,6 @@
 -- `modes::updates::update_clash` meets its contract: the test is made only for two rows of one mode. Assumes nothing.
 use Rattle.rules.specs.Modes.{updateClash}
-use mathlib.Core.Path.{sym, _∙_}
+use mathlib.Core.Path.{refl, sym, _∙_}
 use borrow.Author.Needs.{needs}
 use Rattle.modes.proofs.updates.update_clash.Statement.{statement}
 use Rattle.modes.proofs.updates.update_clash.Tie as tie
@@ -19,7 +19,7 @@ some-destination-shared-requires c κs = search needs
 
 returns : tie.Need-returns
 unfolding updateClash
-returns c T e f = simp (c .some-destination-shared .ensures T e, c .before .driver2 .ensures, c .before .before .driver .ensures, ← f, sym (c .before .before .before .before .one-mode .ensures T f) ∙ c .before .before .before .if1 .taken)
+returns c T e f = simp (c .some-destination-shared .ensures T e, c .before .driver2 .ensures, c .before .before .driver .ensures, ← f, sym (c .before .before .before .before .one-mode .ensures T f) ∙ c .before .before .before .if1 .taken) refl
 
 returns-2 : tie.Need-returns-2
 unfolding updateClash

@@ -1,4 +1,5 @@
 -- `modes::updates::update_wrong` meets its contract: each part of the rule is asked of the row. Assumes nothing.
+use mathlib.Core.Path.{refl}
 use Rattle.rules.specs.Modes.{updateWrong}
 use borrow.Author.Needs.{needs}
 use Rattle.modes.proofs.updates.update_wrong.Statement.{statement}
@@ -21,7 +22,7 @@ has-update-clash-requires c κs = search needs
 
 returns : tie.Need-returns
 unfolding updateWrong
-returns c T e1 e2 e3 e4 e5 = simp (c .has-update-clash .ensures T e3 e5, c .before .some-destination-no-actuator .ensures T e1 e3, c .before .before .some-source-undeclared .ensures T e2 e3 e4, c .before .before .before .driver .ensures, c .before .before .before .before .mode .ensures, ← e5)
+returns c T e1 e2 e3 e4 e5 = simp (c .has-update-clash .ensures T e3 e5, c .before .some-destination-no-actuator .ensures T e1 e3, c .before .before .some-source-undeclared .ensures T e2 e3 e4, c .before .before .before .driver .ensures, c .before .before .before .before .mode .ensures, ← e5) refl
 
 pub update-wrong-spec : {M : Type 1} → statement M
 update-wrong-spec =

@@ -1,4 +1,5 @@
 -- `modes::whole::not_whole` meets its contract: the two rows say modes and frequencies. Assumes nothing.
+use mathlib.Core.Path.{refl}
 use Rattle.rules.specs.Timing.{notWhole}
 use borrow.Author.Needs.{needs}
 use Rattle.modes.proofs.whole.not_whole.Statement.{statement}
@@ -27,7 +28,7 @@ misses-requires c κs = search needs
 
 returns : tie.Need-returns
 unfolding notWhole
-returns c T e f = simp (c .misses .ensures, c .before .index2 .ensures, c .before .before .index .ensures, c .before .before .before .field2 .ensures, c .before .before .before .before .field .ensures, c .before .before .before .before .before .mode2 .ensures, c .before .before .before .before .before .before .mode .ensures, e, f)
+returns c T e f = simp (c .misses .ensures, c .before .index2 .ensures, c .before .before .index .ensures, c .before .before .before .field2 .ensures, c .before .before .before .before .field .ensures, c .before .before .before .before .before .mode2 .ensures, c .before .before .before .before .before .before .mode .ensures, e, f) refl
 
 pub not-whole-spec : {M : Type 1} → statement M
 not-whole-spec =

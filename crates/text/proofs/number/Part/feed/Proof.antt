@@ -1,4 +1,5 @@
 -- `text::number::Part::feed` meets its contract: a digit is below 10, and ten times a held number fits. Assumes nothing.
+use mathlib.Core.Path.{refl}
 use native.Mathlib.Omega.{arith}
 use borrow.Author.Needs.{needs}
 use Rattle.text.specs.Part.{partAfter}
@@ -28,7 +29,7 @@ cap-requires-2 c κs = search needs
 
 returns : tie.Need-returns
 unfolding partAfter
-returns c = simp (c .before .before .if1 .taken, ← c .before .cap .ensures, ← c .cap2 .ensures)
+returns c = simp (c .before .before .if1 .taken, c .cap2 .ensures, c .before .cap .ensures) refl
 
 returns-2 : tie.Need-returns-2
 unfolding partAfter
