@@ -1,13 +1,15 @@
 -- A slice that is longer than a buffer of one row more than the limit is number 1, whole and cut to the buffer. Assumes nothing.
 use Prim.Native.Nat.{ℕ, _+_, _*_, _/_, _%_, _≤_, _<_}
-use mathlib.Core.Path.{_≡_}
+use mathlib.Core.Path.{_≡_, refl}
 use mathlib.Core.Bool.{true, not, or-true}
 use mathlib.Core.List.{List}
 use native.Mathlib.Nat.{le-div-iff-mul-le}
 use native.Mathlib.Omega.{arith}
 use lib.Dec.{eqb, ltb}
-use lib.ListN.{length, take, length-take}
+use lib.ListN.{length, take, replicate, length-take}
 use borrow.Author.Tests.{lt-ltb}
+use Rattle.cells.specs.Limits.{maxModes}
+use Rattle.program.specs.Tables.{modeWidth}
 use Rattle.rules.specs.Shape.{badSlice}
 
 module _ {A : Type 0} (width limit : ℕ) (some : 1 ≤ width) where
@@ -23,3 +25,10 @@ module _ {A : Type 0} (width limit : ℕ) (some : 1 ≤ width) where
   pub cut-too-long : (cap : ℕ) (t : List A) → (limit + 1) * width ≤ cap → cap < length t
       → (badSlice width limit (take cap t) ≡ true) × (badSlice width limit t ≡ true)
   cut-too-long cap t h l = (too-long (take cap t) (simp length-take (omega arith)), too-long t (omega arith))
+
+-- an instance: of ten modes there is room for nine, and either way there are too many
+abbrev ten : List ℕ
+ten = replicate (maxModes + 2) 0
+
+ten-modes : (badSlice modeWidth maxModes (take (maxModes + 1) ten) ≡ true) × (badSlice modeWidth maxModes ten ≡ true)
+ten-modes = cut-too-long modeWidth maxModes (omega arith) (maxModes + 1) ten (omega arith) (let many : length ten ≡ maxModes + 2 = refl in omega arith)

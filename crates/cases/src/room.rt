@@ -1,5 +1,5 @@
-// Numbers that a buffer for each table holds: one row more than its limit. A longer slice is cut to that, and is number 1
-// either way (proofs/Cut).
+// How many numbers there is room for of each table: one row more than its limit. A longer slice is cut to that, and is
+// number 1 either way (proofs/Cut).
 use cells::columns::copy;
 use cells::columns::driver;
 use cells::columns::invocation;
@@ -31,3 +31,43 @@ pub const INVOCATIONS: usize = (Program::INVOCATIONS + 1) * invocation::WIDTH;
 pub const UPDATES: usize = (Program::UPDATES + 1) * update::WIDTH;
 
 pub const SWITCHES: usize = (Program::SWITCHES + 1) * switch::WIDTH;
+
+// A program's ten tables lie one after the other in one room. Where each begins:
+pub const PORTS_AT: usize = 0;
+
+pub const TASKS_AT: usize = PORTS_AT + PORTS;
+
+pub const TASK_PORTS_AT: usize = TASKS_AT + TASKS;
+
+pub const DRIVERS_AT: usize = TASK_PORTS_AT + TASK_PORTS;
+
+pub const COPIES_AT: usize = DRIVERS_AT + DRIVERS;
+
+pub const MODES_AT: usize = COPIES_AT + COPIES;
+
+pub const MODE_PORTS_AT: usize = MODES_AT + MODES;
+
+pub const INVOCATIONS_AT: usize = MODE_PORTS_AT + MODE_PORTS;
+
+pub const UPDATES_AT: usize = INVOCATIONS_AT + INVOCATIONS;
+
+pub const SWITCHES_AT: usize = UPDATES_AT + UPDATES;
+
+// The whole.
+pub const ALL: usize = SWITCHES_AT + SWITCHES;
+
+// So many tables; each ends where the next begins.
+pub const TABLES: usize = 10;
+
+pub const ENDS: [usize; TABLES] = [
+    TASKS_AT,
+    TASK_PORTS_AT,
+    DRIVERS_AT,
+    COPIES_AT,
+    MODES_AT,
+    MODE_PORTS_AT,
+    INVOCATIONS_AT,
+    UPDATES_AT,
+    SWITCHES_AT,
+    ALL,
+];

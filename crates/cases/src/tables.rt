@@ -1,8 +1,8 @@
-// Slices, and the ten of a program: as much of each as its buffer holds.
+// Slices, and the ten of a program: as much of each as there is room for.
 ghost use Prim.Native.Nat.{_≤_};
 ghost use lib.ListN.{length};
 use crate::numbers;
-use crate::numbers::Number;
+use crate::room;
 use crate::stream::Reader;
 
 // How many of a slice's numbers were kept.
@@ -11,14 +11,10 @@ pub struct Kept {
     pub len: usize,
 }
 
-// How many of each of five.
-struct Five {
+// How many of each of ten.
+struct Ten {
     reader: Reader,
-    len0: usize,
-    len1: usize,
-    len2: usize,
-    len3: usize,
-    len4: usize,
+    len: [usize; room::TABLES],
 }
 
 // A program's start mode, and how many numbers of each table were kept.
@@ -35,6 +31,16 @@ pub struct Lengths {
     pub invocations: usize,
     pub updates: usize,
     pub switches: usize,
+}
+
+// The smaller of two.
+fn least(a: usize, b: usize) -> usize
+    ensures { λ r. ⌜ r ≤ b ⌝ }
+{
+    if a < b {
+        return a;
+    }
+    b
 }
 
 fn keep(out: &mut [i32], at: usize, value: i32) {
@@ -58,13 +64,8 @@ fn fill(r: Reader, buffer: &mut [u8], n: usize, out: &mut [i32]) -> Kept
         keep(out, i, number.value);
         i += 1;
     }
-    if out.len() < n {
-        return Kept {
-            reader,
-            len: out.len(),
-        };
-    }
-    Kept { reader, len: n }
+    let len = least(n, out.len());
+    Kept { reader, len }
 }
 
 // A slice: its length, then its numbers.
@@ -75,92 +76,60 @@ pub fn slice(r: Reader, buffer: &mut [u8], out: &mut [i32]) -> Kept
     fill(amount.reader, buffer, amount.value, out)
 }
 
-// As much of a buffer as was kept of a slice.
-pub fn held(t: &[i32], n: usize) -> &[i32] {
-    if n <= t.len() {
-        return &t[0..n];
-    }
-    t
+// The n numbers from a place on, as many as there are.
+pub fn part(room: &[i32], at: usize, n: usize) -> &[i32] {
+    let from = least(at, room.len());
+    let end = from + least(n, room.len() - from);
+    &room[from..end]
 }
 
-// Five slices, one after the other.
-fn in_turn(
-    r: Reader,
-    buffer: &mut [u8],
-    t0: &mut [i32],
-    t1: &mut [i32],
-    t2: &mut [i32],
-    t3: &mut [i32],
-    t4: &mut [i32],
-) -> Five {
-    let k0 = slice(r, buffer, t0);
-    let k1 = slice(k0.reader, buffer, t1);
-    let k2 = slice(k1.reader, buffer, t2);
-    let k3 = slice(k2.reader, buffer, t3);
-    let k4 = slice(k3.reader, buffer, t4);
-    let reader = k4.reader;
-    Five {
-        reader,
-        len0: k0.len,
-        len1: k1.len,
-        len2: k2.len,
-        len3: k3.len,
-        len4: k4.len,
-    }
+// A slice into its place, which ends where the next begins; as much of it as is in the room.
+fn placed(r: Reader, buffer: &mut [u8], room: &mut [i32], at: usize, next: usize) -> Kept {
+    let end = least(next, room.len());
+    let from = least(at, end);
+    slice(r, buffer, &mut room[from..end])
 }
 
-// The start mode and twice five tables.
-fn joined(start: Number, a: Five, b: Five) -> Lengths {
-    let reader = b.reader;
+// Ten slices, one after the other, each into its place.
+fn in_turn(r: Reader, buffer: &mut [u8], room: &mut [i32]) -> Ten {
+    let mut reader = r;
+    let mut len = [0; room::TABLES];
+    let mut at = 0;
+    let mut i = 0;
+    while i < room::TABLES {
+        let next = room::ENDS[i];
+        let kept = placed(reader, buffer, room, at, next);
+        reader = kept.reader;
+        at = next;
+        len[i] = kept.len;
+        i += 1;
+    }
+    Ten { reader, len }
+}
+
+// The start mode and ten tables.
+fn joined(start: i32, t: Ten) -> Lengths {
+    let reader = t.reader;
+    let len = t.len;
     Lengths {
         reader,
-        start: start.value,
-        ports: a.len0,
-        tasks: a.len1,
-        task_ports: a.len2,
-        drivers: a.len3,
-        copies: a.len4,
-        modes: b.len0,
-        mode_ports: b.len1,
-        invocations: b.len2,
-        updates: b.len3,
-        switches: b.len4,
+        start,
+        ports: len[0],
+        tasks: len[1],
+        task_ports: len[2],
+        drivers: len[3],
+        copies: len[4],
+        modes: len[5],
+        mode_ports: len[6],
+        invocations: len[7],
+        updates: len[8],
+        switches: len[9],
     }
 }
 
 // A program: its start mode, then its ten tables.
-pub fn program(
-    r: Reader,
-    buffer: &mut [u8],
-    ports: &mut [i32],
-    tasks: &mut [i32],
-    task_ports: &mut [i32],
-    drivers: &mut [i32],
-    copies: &mut [i32],
-    modes: &mut [i32],
-    mode_ports: &mut [i32],
-    invocations: &mut [i32],
-    updates: &mut [i32],
-    switches: &mut [i32],
-) -> Lengths {
+pub fn program(r: Reader, buffer: &mut [u8], room: &mut [i32]) -> Lengths {
     let start = numbers::signed(r, buffer);
-    let a = in_turn(
-        start.reader,
-        buffer,
-        ports,
-        tasks,
-        task_ports,
-        drivers,
-        copies,
-    );
-    let b = in_turn(
-        a.reader,
-        buffer,
-        modes,
-        mode_ports,
-        invocations,
-        updates,
-        switches,
-    );
-    joined(start, a, b)
+    let t = in_turn(start.reader, buffer, room);
+    joined(start.value, t)
 }

@@ -1,57 +1,68 @@
--- `cases::tables::in_turn` is safe: each buffer keeps its length through the calls that it is lent to. Assumes nothing.
+-- `cases::tables::in_turn` is safe and ends: the buffer and the room keep their lengths. Assumes nothing.
+use Prim.Native.Nat.{_-_}
+use mathlib.Core.Path.{_≡_}
+use lib.ListN.{length}
 use borrow.Author.Needs.{needs}
 use Rattle.cases.proofs.tables.in_turn.Statement.{statement}
 use Rattle.cases.proofs.tables.in_turn.Tie as tie
 
-slice-requires : tie.Need-slice-requires
-slice-requires c κs = search needs
+abbrev Inv-loop : tie.InvT-loop
+Inv-loop buffer₀ room₀ reader₀ len₀ at₀ i₀ buffer room reader len at i = (length buffer ≡ length buffer₀) × (length room ≡ length room₀)
 
-slice-requires-2 : tie.Need-slice-requires-2
-slice-requires-2 c κs = search needs
+abbrev μ-loop : tie.MeasureT-loop
+μ-loop buffer₀ room₀ reader₀ len₀ at₀ i₀ buffer room reader len at i = 10 - i
 
-slice-requires-3 : tie.Need-slice-requires-3
-slice-requires-3 c κs = search needs
+loop-holds : tie.Need-loop-holds Inv-loop μ-loop
+loop-holds c = search needs
 
-slice-requires-4 : tie.Need-slice-requires-4
-slice-requires-4 c κs = search needs
+mul-next : tie.Need-mul-next Inv-loop μ-loop
+mul-next c = search needs
 
-slice-requires-5 : tie.Need-slice-requires-5
-slice-requires-5 c κs = search needs
+array-read-next : tie.Need-array-read-next Inv-loop μ-loop
+array-read-next c = search needs
 
-same-length : tie.Need-same-length
-same-length c = search (needs, c .before .before .before .before .before .before .before .before .before .before .before .before .before .before .before .before .before .before .before .before .before .before .before .before .before .before .before .buffer .given, c .before .before .before .before .before .before .before .before .before .before .before .before .before .before .before .before .before .before .before .before .before .buffer2 .given, c .before .before .before .before .before .before .before .before .before .before .before .before .before .before .before .buffer3 .given, c .before .before .before .before .before .before .before .before .before .buffer4 .given, c .before .before .before .buffer5 .given)
+placed-requires : tie.Need-placed-requires Inv-loop μ-loop
+placed-requires c κs = search needs
 
-same-length-2 : tie.Need-same-length-2
-same-length-2 c = search (needs, c .before .before .before .before .before .before .before .before .before .before .before .before .before .before .before .before .before .before .before .before .before .before .before .before .before .t0 .given)
+mul-len : tie.Need-mul-len Inv-loop μ-loop
+mul-len c = search needs
 
-same-length-3 : tie.Need-same-length-3
-same-length-3 c = search needs
+array-write-len : tie.Need-array-write-len Inv-loop μ-loop
+array-write-len c = search needs
 
-same-length-4 : tie.Need-same-length-4
-same-length-4 c = search needs
+add-i : tie.Need-add-i Inv-loop μ-loop
+add-i c = search needs
 
-same-length-5 : tie.Need-same-length-5
-same-length-5 c = search needs
+loop-less : tie.Need-loop-less Inv-loop μ-loop
+loop-less c = search needs
 
-same-length-6 : tie.Need-same-length-6
-same-length-6 c = search needs
+loop-again : tie.Need-loop-again Inv-loop μ-loop
+loop-again c = search needs
 
-returns : tie.Need-returns
+same-length : tie.Need-same-length Inv-loop μ-loop
+same-length c = search needs
+
+same-length-2 : tie.Need-same-length-2 Inv-loop μ-loop
+same-length-2 c = search needs
+
+returns : tie.Need-returns Inv-loop μ-loop
 returns c = search needs
 
 pub in-turn-spec : {M : Type 1} → statement M
 in-turn-spec =
     tie.close
     (tie.spec
-    slice-requires
-    slice-requires-2
-    slice-requires-3
-    slice-requires-4
-    slice-requires-5
+    Inv-loop
+    μ-loop
+    loop-holds
+    mul-next
+    array-read-next
+    placed-requires
+    mul-len
+    array-write-len
+    add-i
+    loop-less
+    loop-again
     same-length
     same-length-2
-    same-length-3
-    same-length-4
-    same-length-5
-    same-length-6
     returns)
