@@ -71,12 +71,19 @@ pub mod mode_port {
     pub const PORT: usize = 1;
 }
 
-pub mod invocation {
-    pub const WIDTH: usize = 4;
-
+// Invocations, updates and switches begin alike.
+pub mod timed {
     pub const MODE: usize = 0;
 
     pub const FREQUENCY: usize = 1;
+}
+
+pub mod invocation {
+    pub const WIDTH: usize = 4;
+
+    pub const MODE: usize = crate::columns::timed::MODE;
+
+    pub const FREQUENCY: usize = crate::columns::timed::FREQUENCY;
 
     pub const TASK: usize = 2;
 
@@ -86,9 +93,9 @@ pub mod invocation {
 pub mod update {
     pub const WIDTH: usize = 3;
 
-    pub const MODE: usize = 0;
+    pub const MODE: usize = crate::columns::timed::MODE;
 
-    pub const FREQUENCY: usize = 1;
+    pub const FREQUENCY: usize = crate::columns::timed::FREQUENCY;
 
     pub const DRIVER: usize = 2;
 }
@@ -96,9 +103,9 @@ pub mod update {
 pub mod switch {
     pub const WIDTH: usize = 4;
 
-    pub const MODE: usize = 0;
+    pub const MODE: usize = crate::columns::timed::MODE;
 
-    pub const FREQUENCY: usize = 1;
+    pub const FREQUENCY: usize = crate::columns::timed::FREQUENCY;
 
     pub const TARGET: usize = 2;
 

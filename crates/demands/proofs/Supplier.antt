@@ -16,7 +16,7 @@ use Rattle.theory.proofs.Members.{Has, has-those}
 use Rattle.cells.specs.Cell.{indexOf}
 use Rattle.cells.specs.Limits.{maxPart}
 use Rattle.program.specs.Tables.{tables, modeCount, taskSupplier, taskWorst}
-use Rattle.program.specs.Units.{invMisses, updMisses, swMisses, isMultiple, units}
+use Rattle.program.specs.Units.{rowMisses, isMultiple, units}
 use Rattle.program.specs.Program.{programOf}
 use Rattle.program.proofs.Decoded.{mode-count}
 use Rattle.rules.specs.Shape.{badSlice}
@@ -119,7 +119,7 @@ module _ (L : Asked) (x W : List ℤ) (n : length (L .tables .tasks) ≡ length 
     (q : (t : ℕ) → taskSupplier (L .tables) t ≡ supplierOf L → taskWorst (L .tables) t ≡ taskWorst (withTasks (L .tables) x) t)
     (w : ownWindows (L .windows) (supplierOf L) ≡ ownWindows W (supplierOf L)) where
   judged-same : judged L ≡ judged (changed L x W)
-  unfolding units isMultiple invMisses updMisses swMisses
+  unfolding units isMultiple rowMisses
   judged-same = λ i.
       answerFrom (λ m. break-tasks (L .tables) x (supplierOf L) n p q (L .windows) W (L .part) m (window-same (L .windows) W (supplierOf L) m w) i)
       (length (programOf (L .tables) .modes)) 0

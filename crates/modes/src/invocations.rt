@@ -1,8 +1,7 @@
 // Number 6: what an invocation row breaks, by itself and against the rows before it.
 ghost use mathlib.Core.Path.{_≡_};
-ghost use lib.Dec.{eqb};
 ghost use Rattle.theory.specs.Search.{any, first};
-ghost use Rattle.program.specs.Tables.{Tables, invMode, invocationCount};
+ghost use Rattle.program.specs.Tables.{Tables, invocationCount};
 ghost use Rattle.rules.specs.Modes.{invocationClash, invocationWrong};
 use cells::columns::invocation;
 use cells::table;
@@ -10,15 +9,7 @@ use links::destinations;
 use links::sources;
 use links::task_ports;
 use program::guard;
-
-// Rows i and j are of one mode.
-pub fn one_mode(invocations: &[i32], i: usize, j: usize) -> bool
-    ensures { λ r. ⌜ ((T : Tables) → T .invocations ≡ now (invocations .entry) → r ≡ eqb (invMode T j) (invMode T i)) ⌝ }
-{
-    let m = table::mode(invocations, invocation::WIDTH, i, invocation::MODE);
-    let n = table::mode(invocations, invocation::WIDTH, j, invocation::MODE);
-    n.index() == m.index()
-}
+use program::members;
 
 // Rows i and j of one mode have one task or share an output.
 pub fn invocation_clash(
@@ -30,7 +21,7 @@ pub fn invocation_clash(
 ) -> bool
     ensures { λ r. ⌜ ((T : Tables) → T .ports ≡ now (ports .entry) → T .taskPorts ≡ now («task_ports» .entry) → T .invocations ≡ now (invocations .entry) → r ≡ invocationClash T i j) ⌝ }
 {
-    if one_mode(invocations, i, j) {
+    if members::one_mode(invocations, invocation::WIDTH, i, j) {
         let t = table::task(invocations, invocation::WIDTH, i, invocation::TASK);
         let u = table::task(invocations, invocation::WIDTH, j, invocation::TASK);
         return (u.index() == t.index()) | task_ports::some_output_shared(ports, task_ports, u, t);

@@ -1,8 +1,7 @@
 // Number 8: what a switch row breaks, by itself and against the rows before it.
 ghost use mathlib.Core.Path.{_≡_};
-ghost use lib.Dec.{eqb};
 ghost use Rattle.theory.specs.Search.{any, first};
-ghost use Rattle.program.specs.Tables.{Tables, swMode, switchCount};
+ghost use Rattle.program.specs.Tables.{Tables, switchCount};
 ghost use Rattle.rules.specs.Modes.{switchClash, switchWrong};
 use cells::columns::switch;
 use cells::table;
@@ -10,21 +9,13 @@ use links::destinations;
 use links::mode_ports;
 use links::sources;
 use program::guard;
-
-// Rows i and j are of one mode.
-pub fn one_mode(switches: &[i32], i: usize, j: usize) -> bool
-    ensures { λ r. ⌜ ((T : Tables) → T .switches ≡ now (switches .entry) → r ≡ eqb (swMode T j) (swMode T i)) ⌝ }
-{
-    let m = table::mode(switches, switch::WIDTH, i, switch::MODE);
-    let n = table::mode(switches, switch::WIDTH, j, switch::MODE);
-    n.index() == m.index()
-}
+use program::members;
 
 // The guards of rows i and j of one mode can hold for one valuation.
 pub fn switch_clash(drivers: &[i32], switches: &[i32], i: usize, j: usize) -> bool
     ensures { λ r. ⌜ ((T : Tables) → T .drivers ≡ now (drivers .entry) → T .switches ≡ now (switches .entry) → r ≡ switchClash T i j) ⌝ }
 {
-    if one_mode(switches, i, j) {
+    if members::one_mode(switches, switch::WIDTH, i, j) {
         let d = table::driver(switches, switch::WIDTH, i, switch::DRIVER);
         let e = table::driver(switches, switch::WIDTH, j, switch::DRIVER);
         return guard::guards_meet(drivers, e, d);

@@ -1,28 +1,19 @@
 // Number 7: what an update row breaks, by itself and against the rows before it.
 ghost use mathlib.Core.Path.{_≡_};
-ghost use lib.Dec.{eqb};
 ghost use Rattle.theory.specs.Search.{any, first};
-ghost use Rattle.program.specs.Tables.{Tables, updMode, updateCount};
+ghost use Rattle.program.specs.Tables.{Tables, updateCount};
 ghost use Rattle.rules.specs.Modes.{updateClash, updateWrong};
 use cells::columns::update;
 use cells::table;
 use links::destinations;
 use links::sources;
-
-// Rows i and j are of one mode.
-pub fn one_mode(updates: &[i32], i: usize, j: usize) -> bool
-    ensures { λ r. ⌜ ((T : Tables) → T .updates ≡ now (updates .entry) → r ≡ eqb (updMode T j) (updMode T i)) ⌝ }
-{
-    let m = table::mode(updates, update::WIDTH, i, update::MODE);
-    let n = table::mode(updates, update::WIDTH, j, update::MODE);
-    n.index() == m.index()
-}
+use program::members;
 
 // Rows i and j of one mode share a destination.
 pub fn update_clash(copies: &[i32], updates: &[i32], i: usize, j: usize) -> bool
     ensures { λ r. ⌜ ((T : Tables) → T .copies ≡ now (copies .entry) → T .updates ≡ now (updates .entry) → r ≡ updateClash T i j) ⌝ }
 {
-    if one_mode(updates, i, j) {
+    if members::one_mode(updates, update::WIDTH, i, j) {
         let d = table::driver(updates, update::WIDTH, i, update::DRIVER);
         let e = table::driver(updates, update::WIDTH, j, update::DRIVER);
         return destinations::some_destination_shared(copies, e, d);

@@ -13,7 +13,7 @@ use Rattle.theory.proofs.Bools.{says-as, says-eq, bars-not, bars-as, _or_, says
 use Rattle.theory.proofs.Search.{first-has, first-least, rows-bar}
 use Rattle.cells.specs.Limits.{maxUnits}
 use Rattle.program.specs.Tables.{Tables, invMode, invFrequency, updMode, updFrequency, swMode, swFrequency}
-use Rattle.program.specs.Units.{misses, invMisses, updMisses, swMisses, isMultiple, units, Multiple, Units}
+use Rattle.program.specs.Units.{misses, rowMisses, isMultiple, units, Multiple, Units}
 
 -- u misses f: f does not divide u. A frequency 0 divides only 0
 pub misses-bars : (u f : ℕ) → Bars (misses u f) (f ∣ u)
@@ -23,7 +23,7 @@ misses-bars u f = bars-not (says-as (says-eq (u % f) 0) (dvd-of-mod-eq-zero f) (
 module _ (T : Tables) (m : ℕ) where
   -- u is a multiple of every frequency of mode m
   pub multiple-says : (u : ℕ) → Says (isMultiple T m u) (Multiple T m u)
-  unfolding isMultiple invMisses updMisses swMisses
+  unfolding isMultiple rowMisses
   multiple-says u =
       says-bars
       (bars-as

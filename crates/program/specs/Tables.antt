@@ -149,6 +149,19 @@ mpMode T = namedAt modePortWidth 0 (T .modePorts)
 abbrev pub mpPort : Tables → ℕ → ℕ
 mpPort T = namedAt modePortWidth 1 (T .modePorts)
 
+-- Invocations, updates and switches begin alike: a mode, and a frequency in it.
+abbrev pub modeColumn : ℕ
+modeColumn = 0
+
+abbrev pub frequencyColumn : ℕ
+frequencyColumn = 1
+
+abbrev pub rowMode : ℕ → List ℤ → ℕ → ℕ
+rowMode width = namedAt width modeColumn
+
+abbrev pub rowFrequency : ℕ → List ℤ → ℕ → ℕ
+rowFrequency width = fieldAt width frequencyColumn
+
 -- invocations: mode, frequency, task, driver
 abbrev pub invocationWidth : ℕ
 invocationWidth = 4
@@ -157,10 +170,10 @@ abbrev pub invocationCount : Tables → ℕ
 invocationCount T = rowsIn invocationWidth (T .invocations)
 
 abbrev pub invMode : Tables → ℕ → ℕ
-invMode T = namedAt invocationWidth 0 (T .invocations)
+invMode T = rowMode invocationWidth (T .invocations)
 
 abbrev pub invFrequency : Tables → ℕ → ℕ
-invFrequency T = fieldAt invocationWidth 1 (T .invocations)
+invFrequency T = rowFrequency invocationWidth (T .invocations)
 
 abbrev pub invTask : Tables → ℕ → ℕ
 invTask T = namedAt invocationWidth 2 (T .invocations)
@@ -176,10 +189,10 @@ abbrev pub updateCount : Tables → ℕ
 updateCount T = rowsIn updateWidth (T .updates)
 
 abbrev pub updMode : Tables → ℕ → ℕ
-updMode T = namedAt updateWidth 0 (T .updates)
+updMode T = rowMode updateWidth (T .updates)
 
 abbrev pub updFrequency : Tables → ℕ → ℕ
-updFrequency T = fieldAt updateWidth 1 (T .updates)
+updFrequency T = rowFrequency updateWidth (T .updates)
 
 abbrev pub updDriver : Tables → ℕ → ℕ
 updDriver T = namedAt updateWidth 2 (T .updates)
@@ -192,10 +205,10 @@ abbrev pub switchCount : Tables → ℕ
 switchCount T = rowsIn switchWidth (T .switches)
 
 abbrev pub swMode : Tables → ℕ → ℕ
-swMode T = namedAt switchWidth 0 (T .switches)
+swMode T = rowMode switchWidth (T .switches)
 
 abbrev pub swFrequency : Tables → ℕ → ℕ
-swFrequency T = fieldAt switchWidth 1 (T .switches)
+swFrequency T = rowFrequency switchWidth (T .switches)
 
 abbrev pub swTarget : Tables → ℕ → ℕ
 swTarget T = namedAt switchWidth 2 (T .switches)

@@ -3,33 +3,29 @@
 use Prim.Native.Nat.{ℕ, suc, _/_, _%_, _≤_, _<_, _∣_}
 use mathlib.Core.Path.{_≡_}
 use mathlib.Core.Bool.{Bool, not, _&&_, _||_}
+use mathlib.Core.List.{List}
 use mathlib.Core.Logic.{_⊎_}
 use lib.Dec.{eqb}
+use lib.IntN.{ℤ}
 use Rattle.theory.specs.Search.{any, first}
 use Rattle.cells.specs.Limits.{maxUnits}
-use Rattle.program.specs.Tables.{Tables, invocationCount, invMode, invFrequency, updateCount, updMode, updFrequency, switchCount, swMode, swFrequency}
+use Rattle.program.specs.Tables.{Tables, rowMode, rowFrequency, invocationWidth, updateWidth, switchWidth, invocationCount, invMode, invFrequency, updateCount, updMode, updFrequency, switchCount, swMode, swFrequency}
 
 -- u is not a multiple of the frequency f
 unfoldable pub misses : ℕ → ℕ → Bool
 misses u f = not (eqb (u % f) 0)
 
--- row i is of mode m, and u is not a multiple of its frequency
-unfoldable pub invMisses : Tables → ℕ → ℕ → ℕ → Bool
-invMisses T m u i = eqb (invMode T i) m && misses u (invFrequency T i)
-
-unfoldable pub updMisses : Tables → ℕ → ℕ → ℕ → Bool
-updMisses T m u i = eqb (updMode T i) m && misses u (updFrequency T i)
-
-unfoldable pub swMisses : Tables → ℕ → ℕ → ℕ → Bool
-swMisses T m u i = eqb (swMode T i) m && misses u (swFrequency T i)
+-- row i of invocations, updates or switches is of mode m, and u is not a multiple of its frequency
+unfoldable pub rowMisses : ℕ → List ℤ → ℕ → ℕ → ℕ → Bool
+rowMisses width t m u i = eqb (rowMode width t i) m && misses u (rowFrequency width t i)
 
 -- u is a multiple of every frequency of mode m
 unfoldable pub isMultiple : Tables → ℕ → ℕ → Bool
 isMultiple T m u =
     not
-    (any (invMisses T m u) (invocationCount T)
-    || any (updMisses T m u) (updateCount T)
-    || any (swMisses T m u) (switchCount T))
+    (any (rowMisses invocationWidth (T .invocations) m u) (invocationCount T)
+    || any (rowMisses updateWidth (T .updates) m u) (updateCount T)
+    || any (rowMisses switchWidth (T .switches) m u) (switchCount T))
 
 -- the least number from 1 to 64 that is a multiple of every frequency of mode m; 65 where there is none
 unfoldable pub units : Tables → ℕ → ℕ

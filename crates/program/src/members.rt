@@ -1,12 +1,15 @@
 // The sets of 001 that the tables declare: is a port in it? A row's test has no loop; each search asks it of one table's rows.
 ghost use mathlib.Core.Path.{_≡_};
+ghost use lib.Dec.{eqb};
 ghost use Rattle.theory.specs.Search.{any};
-ghost use Rattle.program.specs.Tables.{Tables};
+ghost use Rattle.cells.specs.Cell.{Column};
+ghost use Rattle.program.specs.Tables.{Tables, modeColumn, rowMode};
 ghost use Rattle.program.specs.Sets.{isKind, isTaskPort, isInput, isOutput, modePortAt, isModePort, copiesTo, isDestination};
 use cells::columns::copy;
 use cells::columns::mode_port;
 use cells::columns::port;
 use cells::columns::task_port;
+use cells::columns::timed;
 use cells::kinds::Driver;
 use cells::kinds::Mode;
 use cells::kinds::Port;
@@ -123,4 +126,14 @@ pub fn is_destination(copies: &[i32], d: Driver, p: Port) -> bool
     ensures { λ r. ⌜ ((T : Tables) → T .copies ≡ now (copies .entry) → r ≡ isDestination T (d .0) (p .0)) ⌝ }
 {
     has_copy_to(copies, d, p, copies.len() / copy::WIDTH)
+}
+
+// Rows i and j of invocations, updates or switches are of one mode.
+pub fn one_mode(t: &[i32], width: usize, i: usize, j: usize) -> bool
+    requires { ⌜ Column width modeColumn ⌝ }
+    ensures { λ r. ⌜ r ≡ eqb (rowMode width (now (t .entry)) j) (rowMode width (now (t .entry)) i) ⌝ }
+{
+    let m = table::mode(t, width, i, timed::MODE);
+    let n = table::mode(t, width, j, timed::MODE);
+    n.index() == m.index()
 }

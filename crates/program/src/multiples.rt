@@ -1,11 +1,12 @@
 // The units of a mode: the least common multiple of its frequencies, by trying 1, 2, .. up to the limit. No product is formed.
-ghost use Prim.Native.Nat.{suc};
 ghost use mathlib.Core.Path.{_≡_};
-ghost use Rattle.theory.specs.Search.{any, first};
-ghost use Rattle.program.specs.Tables.{Tables, invocationCount, updateCount, switchCount};
-ghost use Rattle.program.specs.Units.{misses, invMisses, updMisses, swMisses, isMultiple, units};
+ghost use Rattle.theory.specs.Search.{any};
+ghost use Rattle.cells.specs.Cell.{Column, rowsIn};
+ghost use Rattle.program.specs.Tables.{Tables, frequencyColumn};
+ghost use Rattle.program.specs.Units.{misses, rowMisses, isMultiple, units};
 use cells::columns::invocation;
 use cells::columns::switch;
+use cells::columns::timed;
 use cells::columns::update;
 use cells::kinds::Mode;
 use cells::limits::Program;
@@ -21,67 +22,25 @@ pub fn misses(u: usize, f: usize) -> bool
     !(u % f == 0)
 }
 
-// Row i of the invocations is one of mode m, and u is no multiple of its frequency.
-pub fn invocation_misses(invocations: &[i32], m: Mode, u: usize, i: usize) -> bool
-    ensures { λ r. ⌜ ((T : Tables) → T .invocations ≡ now (invocations .entry) → r ≡ invMisses T (m .0) u i) ⌝ }
+// Row i is one of mode m, and u is no multiple of its frequency.
+pub fn row_misses(t: &[i32], width: usize, m: Mode, u: usize, i: usize) -> bool
+    requires { ⌜ Column width frequencyColumn ⌝ }
+    ensures { λ r. ⌜ r ≡ rowMisses width (now (t .entry)) (m .0) u i ⌝ }
 {
-    let a = table::mode(invocations, invocation::WIDTH, i, invocation::MODE);
-    let f = table::field(invocations, invocation::WIDTH, i, invocation::FREQUENCY);
-    (a.index() == m.index()) & misses(u, f)
-}
-
-pub fn update_misses(updates: &[i32], m: Mode, u: usize, i: usize) -> bool
-    ensures { λ r. ⌜ ((T : Tables) → T .updates ≡ now (updates .entry) → r ≡ updMisses T (m .0) u i) ⌝ }
-{
-    let a = table::mode(updates, update::WIDTH, i, update::MODE);
-    let f = table::field(updates, update::WIDTH, i, update::FREQUENCY);
-    (a.index() == m.index()) & misses(u, f)
-}
-
-pub fn switch_misses(switches: &[i32], m: Mode, u: usize, i: usize) -> bool
-    ensures { λ r. ⌜ ((T : Tables) → T .switches ≡ now (switches .entry) → r ≡ swMisses T (m .0) u i) ⌝ }
-{
-    let a = table::mode(switches, switch::WIDTH, i, switch::MODE);
-    let f = table::field(switches, switch::WIDTH, i, switch::FREQUENCY);
-    (a.index() == m.index()) & misses(u, f)
+    let own = table::mode(t, width, i, timed::MODE);
+    let f = table::field(t, width, i, timed::FREQUENCY);
+    (own.index() == m.index()) & misses(u, f)
 }
 
 // Some row of the table is.
-pub fn some_invocation_misses(invocations: &[i32], m: Mode, u: usize) -> bool
-    ensures { λ r. ⌜ ((T : Tables) → T .invocations ≡ now (invocations .entry) → r ≡ any (invMisses T (m .0) u) (invocationCount T)) ⌝ }
+pub fn some_row_misses(t: &[i32], width: usize, m: Mode, u: usize) -> bool
+    requires { ⌜ Column width frequencyColumn ⌝ }
+    ensures { λ r. ⌜ r ≡ any (rowMisses width (now (t .entry)) (m .0) u) (rowsIn width (now (t .entry))) ⌝ }
 {
-    let n = invocations.len() / invocation::WIDTH;
+    let n = t.len() / width;
     let mut i = 0;
     while i < n {
-        if invocation_misses(invocations, m, u, i) {
-            return true;
-        }
-        i += 1;
-    }
-    false
-}
-
-pub fn some_update_misses(updates: &[i32], m: Mode, u: usize) -> bool
-    ensures { λ r. ⌜ ((T : Tables) → T .updates ≡ now (updates .entry) → r ≡ any (updMisses T (m .0) u) (updateCount T)) ⌝ }
-{
-    let n = updates.len() / update::WIDTH;
-    let mut i = 0;
-    while i < n {
-        if update_misses(updates, m, u, i) {
-            return true;
-        }
-        i += 1;
-    }
-    false
-}
-
-pub fn some_switch_misses(switches: &[i32], m: Mode, u: usize) -> bool
-    ensures { λ r. ⌜ ((T : Tables) → T .switches ≡ now (switches .entry) → r ≡ any (swMisses T (m .0) u) (switchCount T)) ⌝ }
-{
-    let n = switches.len() / switch::WIDTH;
-    let mut i = 0;
-    while i < n {
-        if switch_misses(switches, m, u, i) {
+        if row_misses(t, width, m, u, i) {
             return true;
         }
         i += 1;
@@ -99,9 +58,9 @@ pub fn is_multiple(
 ) -> bool
     ensures { λ r. ⌜ ((T : Tables) → T .invocations ≡ now (invocations .entry) → T .updates ≡ now (updates .entry) → T .switches ≡ now (switches .entry) → r ≡ isMultiple T (m .0) u) ⌝ }
 {
-    let a = some_invocation_misses(invocations, m, u);
-    let b = some_update_misses(updates, m, u);
-    let c = some_switch_misses(switches, m, u);
+    let a = some_row_misses(invocations, invocation::WIDTH, m, u);
+    let b = some_row_misses(updates, update::WIDTH, m, u);
+    let c = some_row_misses(switches, switch::WIDTH, m, u);
     !(a | b | c)
 }
 

@@ -17,7 +17,7 @@ use Rattle.theory.proofs.Members.{has-then, has-keep, member-says}
 use Rattle.cells.specs.Limits.{suppliers}
 use Rattle.program.specs.Tables.{Tables, tables, taskWidth, taskCount, taskSupplier, taskWorst}
 use Rattle.program.specs.Sets.{isKind}
-use Rattle.program.specs.Units.{invMisses, updMisses, swMisses, isMultiple, units}
+use Rattle.program.specs.Units.{rowMisses, isMultiple, units}
 use Rattle.program.specs.Program.{Program, Switch, programOf, task, taskRow, mode, enteredUnit, nextUnit, dueSwitches, dueTasks}
 use Rattle.program.proofs.Decoded.{task-row}
 use Rattle.code.specs.Op.{jump}
@@ -56,7 +56,7 @@ listing-other P Q = λ i. jump (blockAddress P (P .start) 0) ∷ cat (λ m. cat 
 
 -- so the listing of the tables uses nothing of their tasks
 pub listing-tasks : (T : Tables) (x : List ℤ) → listingOf T ≡ listingOf (withTasks T x)
-unfolding listingOf units isMultiple invMisses updMisses swMisses isKind
+unfolding listingOf units isMultiple rowMisses isKind
 listing-tasks T x = listing-other (programOf T) (programOf (withTasks T x))
 
 -- what no row declares
@@ -110,7 +110,7 @@ module _ (T : Tables) (x : List ℤ) (s : ℕ) (as-many : length (T .tasks) ≡ 
   -- the course of s in a mode is the same but for worst-case times, where its windows are
   course-same : (W X S : List ℤ) (m : ℕ) → inWindow W s m ≡ inWindow X s m
       → SameCourse (course (programOf T) W S s m) (course (programOf (withTasks T x)) X S s m)
-  unfolding units isMultiple invMisses updMisses swMisses isKind
+  unfolding units isMultiple rowMisses isKind
   course-same W X S m w = record {
     ticks = refl;
     units = refl;
@@ -123,7 +123,7 @@ module _ (T : Tables) (x : List ℤ) (s : ℕ) (as-many : length (T .tasks) ≡ 
   -- and so is the first break of its worst-case run
   pub break-tasks : (W X S : List ℤ) (m : ℕ) → inWindow W s m ≡ inWindow X s m
       → worstBreak (course (programOf T) W S s m) nothing ≡ worstBreak (course (programOf (withTasks T x)) X S s m) nothing
-  unfolding units isMultiple invMisses updMisses swMisses
+  unfolding units isMultiple rowMisses
   break-tasks W X S m w =
       judge-same C D (course-same W X S m w) (worstCase C) (worstCase D)
       (λ k t h. task-same t .1 (own-supplier (dueTasks (mode (programOf T) m) k) t h)) (C .units) 0 nothing

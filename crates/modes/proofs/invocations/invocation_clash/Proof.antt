@@ -25,11 +25,11 @@ some-output-shared-requires c κs = search needs
 
 returns : tie.Need-returns
 unfolding invocationClash
-returns c T e f g = simp (c .some-output-shared .ensures T e f, c .before .index2 .ensures, c .before .before .index .ensures, c .before .before .before .task2 .ensures, c .before .before .before .before .task .ensures, ← g, sym (c .before .before .before .before .before .before .one-mode .ensures T g) ∙ c .before .before .before .before .before .if1 .taken) refl
+returns c T e f g = simp (c .some-output-shared .ensures T e f, c .before .index2 .ensures, c .before .before .index .ensures, c .before .before .before .task2 .ensures, c .before .before .before .before .task .ensures, g, sym (c .before .before .before .before .before .before .one-mode .ensures) ∙ c .before .before .before .before .before .if1 .taken) refl
 
 returns-2 : tie.Need-returns-2
 unfolding invocationClash
-returns-2 c T e f g = simp (sym (c .before .one-mode .ensures T g) ∙ c .if1 .left)
+returns-2 c T e f g = simp (sym (c .before .one-mode .ensures) ∙ c .if1 .left, g)
 
 pub invocation-clash-spec : {M : Type 1} → statement M
 invocation-clash-spec =

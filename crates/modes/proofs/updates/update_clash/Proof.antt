@@ -19,11 +19,11 @@ some-destination-shared-requires c κs = search needs
 
 returns : tie.Need-returns
 unfolding updateClash
-returns c T e f = simp (c .some-destination-shared .ensures T e, c .before .driver2 .ensures, c .before .before .driver .ensures, ← f, sym (c .before .before .before .before .one-mode .ensures T f) ∙ c .before .before .before .if1 .taken) refl
+returns c T e f = simp (c .some-destination-shared .ensures T e, c .before .driver2 .ensures, c .before .before .driver .ensures, f, sym (c .before .before .before .before .one-mode .ensures) ∙ c .before .before .before .if1 .taken) refl
 
 returns-2 : tie.Need-returns-2
 unfolding updateClash
-returns-2 c T e f = simp (sym (c .before .one-mode .ensures T f) ∙ c .if1 .left)
+returns-2 c T e f = simp (sym (c .before .one-mode .ensures) ∙ c .if1 .left, f)
 
 pub update-clash-spec : {M : Type 1} → statement M
 update-clash-spec =

@@ -1,8 +1,8 @@
--- `modes::switches::one_mode` meets its contract: the two rows say their modes. Assumes nothing.
+-- `program::members::one_mode` meets its contract: the two rows say their modes. Assumes nothing.
 use mathlib.Core.Path.{refl}
 use borrow.Author.Needs.{needs}
-use Rattle.modes.proofs.switches.one_mode.Statement.{statement}
-use Rattle.modes.proofs.switches.one_mode.Tie as tie
+use Rattle.program.proofs.members.one_mode.Statement.{statement}
+use Rattle.program.proofs.members.one_mode.Tie as tie
 
 mode-requires : tie.Need-mode-requires
 mode-requires c κs = search needs
@@ -17,7 +17,7 @@ index-requires-2 : tie.Need-index-requires-2
 index-requires-2 c κs = search needs
 
 returns : tie.Need-returns
-returns c T e = simp (c .index2 .ensures, c .before .index .ensures, c .before .before .mode2 .ensures, c .before .before .before .mode .ensures, e) refl
+returns c = simp (c .index2 .ensures, c .before .index .ensures, c .before .before .mode2 .ensures, c .before .before .before .mode .ensures) refl
 
 pub one-mode-spec : {M : Type 1} → statement M
 one-mode-spec =
