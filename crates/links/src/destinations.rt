@@ -105,7 +105,7 @@ pub fn some_destination_shared(copies: &[i32], e: Driver, d: Driver) -> bool
 }
 
 // Row c is a copy of driver d to a port that is none of mode m.
-pub fn destination_undeclared(
+pub fn destination_no_mode_port(
     copies: &[i32],
     mode_ports: &[i32],
     m: Mode,
@@ -122,13 +122,13 @@ pub fn destination_undeclared(
 }
 
 // Some copy of driver d is.
-pub fn some_destination_undeclared(copies: &[i32], mode_ports: &[i32], m: Mode, d: Driver) -> bool
+pub fn some_destination_no_mode_port(copies: &[i32], mode_ports: &[i32], m: Mode, d: Driver) -> bool
     ensures { λ r. ⌜ ((T : Tables) → T .copies ≡ now (copies .entry) → T .modePorts ≡ now («mode_ports» .entry) → r ≡ someDestination T (λ p. not (isModePort T (m .0) p)) (d .0)) ⌝ }
 {
     let n = copies.len() / copy::WIDTH;
     let mut c = 0;
     while c < n {
-        if destination_undeclared(copies, mode_ports, m, d, c) {
+        if destination_no_mode_port(copies, mode_ports, m, d, c) {
             return true;
         }
         c += 1;

@@ -11,7 +11,7 @@ use cells::table;
 use program::members;
 
 // Row k is a port of mode m that driver d does not set.
-pub fn port_unset(copies: &[i32], mode_ports: &[i32], d: Driver, m: Mode, k: usize) -> bool
+pub fn port_no_destination(copies: &[i32], mode_ports: &[i32], d: Driver, m: Mode, k: usize) -> bool
     ensures { λ r. ⌜ ((T : Tables) → T .copies ≡ now (copies .entry) → T .modePorts ≡ now («mode_ports» .entry) → r ≡ portWith T (λ p. not (isDestination T (d .0) p)) (m .0) k) ⌝ }
 {
     let owner = table::mode(mode_ports, mode_port::WIDTH, k, mode_port::MODE);
@@ -23,13 +23,13 @@ pub fn port_unset(copies: &[i32], mode_ports: &[i32], d: Driver, m: Mode, k: usi
 }
 
 // Some port of mode m is not set by driver d.
-pub fn some_port_unset(copies: &[i32], mode_ports: &[i32], d: Driver, m: Mode) -> bool
+pub fn some_port_no_destination(copies: &[i32], mode_ports: &[i32], d: Driver, m: Mode) -> bool
     ensures { λ r. ⌜ ((T : Tables) → T .copies ≡ now (copies .entry) → T .modePorts ≡ now («mode_ports» .entry) → r ≡ somePort T (λ p. not (isDestination T (d .0) p)) (m .0)) ⌝ }
 {
     let n = mode_ports.len() / mode_port::WIDTH;
     let mut k = 0;
     while k < n {
-        if port_unset(copies, mode_ports, d, m, k) {
+        if port_no_destination(copies, mode_ports, d, m, k) {
             return true;
         }
         k += 1;

@@ -4,7 +4,7 @@ ghost use mathlib.Core.Bool.{not};
 ghost use Rattle.theory.specs.Search.{any};
 ghost use Rattle.program.specs.Tables.{Tables, copyCount};
 ghost use Rattle.program.specs.Sets.{isModePort};
-ghost use Rattle.rules.specs.Modes.{sourceWith, someSource, unread};
+ghost use Rattle.rules.specs.Modes.{sourceWith, someSource, unreadable};
 use crate::copies::own_copy;
 use cells::columns::copy;
 use cells::columns::driver;
@@ -17,8 +17,8 @@ use program::guard;
 use program::members;
 
 // Port p is neither a port of mode m nor a sensor.
-pub fn unread(ports: &[i32], mode_ports: &[i32], m: Mode, p: Port) -> bool
-    ensures { λ r. ⌜ ((T : Tables) → T .ports ≡ now (ports .entry) → T .modePorts ≡ now («mode_ports» .entry) → r ≡ unread T (m .0) (p .0)) ⌝ }
+pub fn unreadable(ports: &[i32], mode_ports: &[i32], m: Mode, p: Port) -> bool
+    ensures { λ r. ⌜ ((T : Tables) → T .ports ≡ now (ports .entry) → T .modePorts ≡ now («mode_ports» .entry) → r ≡ unreadable T (m .0) (p .0)) ⌝ }
 {
     if members::is_kind(ports, port::SENSOR, p) {
         return false;
@@ -27,7 +27,7 @@ pub fn unread(ports: &[i32], mode_ports: &[i32], m: Mode, p: Port) -> bool
 }
 
 // Row c is a copy of driver d from a port that mode m does not let it read.
-pub fn source_unread(
+pub fn source_unreadable(
     ports: &[i32],
     copies: &[i32],
     mode_ports: &[i32],
@@ -35,29 +35,29 @@ pub fn source_unread(
     d: Driver,
     c: usize,
 ) -> bool
-    ensures { λ r. ⌜ ((T : Tables) → T .ports ≡ now (ports .entry) → T .copies ≡ now (copies .entry) → T .modePorts ≡ now («mode_ports» .entry) → r ≡ sourceWith T (unread T (m .0)) (d .0) c) ⌝ }
+    ensures { λ r. ⌜ ((T : Tables) → T .ports ≡ now (ports .entry) → T .copies ≡ now (copies .entry) → T .modePorts ≡ now («mode_ports» .entry) → r ≡ sourceWith T (unreadable T (m .0)) (d .0) c) ⌝ }
 {
     if own_copy(copies, d, c) {
         let p = table::port(copies, copy::WIDTH, c, copy::SOURCE);
-        return unread(ports, mode_ports, m, p);
+        return unreadable(ports, mode_ports, m, p);
     }
     false
 }
 
 // Some copy of driver d is.
-pub fn some_copy_unread(
+pub fn some_copy_unreadable(
     ports: &[i32],
     copies: &[i32],
     mode_ports: &[i32],
     m: Mode,
     d: Driver,
 ) -> bool
-    ensures { λ r. ⌜ ((T : Tables) → T .ports ≡ now (ports .entry) → T .copies ≡ now (copies .entry) → T .modePorts ≡ now («mode_ports» .entry) → r ≡ any (sourceWith T (unread T (m .0)) (d .0)) (copyCount T)) ⌝ }
+    ensures { λ r. ⌜ ((T : Tables) → T .ports ≡ now (ports .entry) → T .copies ≡ now (copies .entry) → T .modePorts ≡ now («mode_ports» .entry) → r ≡ any (sourceWith T (unreadable T (m .0)) (d .0)) (copyCount T)) ⌝ }
 {
     let n = copies.len() / copy::WIDTH;
     let mut c = 0;
     while c < n {
-        if source_unread(ports, copies, mode_ports, m, d, c) {
+        if source_unreadable(ports, copies, mode_ports, m, d, c) {
             return true;
         }
         c += 1;
@@ -66,7 +66,7 @@ pub fn some_copy_unread(
 }
 
 // Some source of driver d is: a copy's, or its interval guard's port.
-pub fn some_source_unread(
+pub fn some_source_unreadable(
     ports: &[i32],
     drivers: &[i32],
     copies: &[i32],
@@ -74,20 +74,20 @@ pub fn some_source_unread(
     m: Mode,
     d: Driver,
 ) -> bool
-    ensures { λ r. ⌜ ((T : Tables) → T .ports ≡ now (ports .entry) → T .drivers ≡ now (drivers .entry) → T .copies ≡ now (copies .entry) → T .modePorts ≡ now («mode_ports» .entry) → r ≡ someSource T (unread T (m .0)) (d .0)) ⌝ }
+    ensures { λ r. ⌜ ((T : Tables) → T .ports ≡ now (ports .entry) → T .drivers ≡ now (drivers .entry) → T .copies ≡ now (copies .entry) → T .modePorts ≡ now («mode_ports» .entry) → r ≡ someSource T (unreadable T (m .0)) (d .0)) ⌝ }
 {
-    if some_copy_unread(ports, copies, mode_ports, m, d) {
+    if some_copy_unreadable(ports, copies, mode_ports, m, d) {
         return true;
     }
     if guard::is_interval(drivers, d) {
         let p = table::port(drivers, driver::WIDTH, d.index(), driver::PORT);
-        return unread(ports, mode_ports, m, p);
+        return unreadable(ports, mode_ports, m, p);
     }
     false
 }
 
 // Row c is a copy of driver d from a port that is none of mode m.
-pub fn source_undeclared(copies: &[i32], mode_ports: &[i32], m: Mode, d: Driver, c: usize) -> bool
+pub fn source_no_mode_port(copies: &[i32], mode_ports: &[i32], m: Mode, d: Driver, c: usize) -> bool
     ensures { λ r. ⌜ ((T : Tables) → T .copies ≡ now (copies .entry) → T .modePorts ≡ now («mode_ports» .entry) → r ≡ sourceWith T (λ p. not (isModePort T (m .0) p)) (d .0) c) ⌝ }
 {
     if own_copy(copies, d, c) {
@@ -98,13 +98,13 @@ pub fn source_undeclared(copies: &[i32], mode_ports: &[i32], m: Mode, d: Driver,
 }
 
 // Some copy of driver d is.
-pub fn some_copy_undeclared(copies: &[i32], mode_ports: &[i32], m: Mode, d: Driver) -> bool
+pub fn some_copy_no_mode_port(copies: &[i32], mode_ports: &[i32], m: Mode, d: Driver) -> bool
     ensures { λ r. ⌜ ((T : Tables) → T .copies ≡ now (copies .entry) → T .modePorts ≡ now («mode_ports» .entry) → r ≡ any (sourceWith T (λ p. not (isModePort T (m .0) p)) (d .0)) (copyCount T)) ⌝ }
 {
     let n = copies.len() / copy::WIDTH;
     let mut c = 0;
     while c < n {
-        if source_undeclared(copies, mode_ports, m, d, c) {
+        if source_no_mode_port(copies, mode_ports, m, d, c) {
             return true;
         }
         c += 1;
@@ -113,7 +113,7 @@ pub fn some_copy_undeclared(copies: &[i32], mode_ports: &[i32], m: Mode, d: Driv
 }
 
 // Some source of driver d is no port of mode m: a copy's, or its interval guard's port.
-pub fn some_source_undeclared(
+pub fn some_source_no_mode_port(
     drivers: &[i32],
     copies: &[i32],
     mode_ports: &[i32],
@@ -122,7 +122,7 @@ pub fn some_source_undeclared(
 ) -> bool
     ensures { λ r. ⌜ ((T : Tables) → T .drivers ≡ now (drivers .entry) → T .copies ≡ now (copies .entry) → T .modePorts ≡ now («mode_ports» .entry) → r ≡ someSource T (λ p. not (isModePort T (m .0) p)) (d .0)) ⌝ }
 {
-    if some_copy_undeclared(copies, mode_ports, m, d) {
+    if some_copy_no_mode_port(copies, mode_ports, m, d) {
         return true;
     }
     if guard::is_interval(drivers, d) {

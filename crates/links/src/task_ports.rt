@@ -22,7 +22,7 @@ pub fn own_port(ports: &[i32], task_ports: &[i32], kind: usize, t: Task, k: usiz
 }
 
 // Row k is an output of task t that is no port of mode m.
-pub fn output_undeclared(
+pub fn output_no_mode_port(
     ports: &[i32],
     task_ports: &[i32],
     mode_ports: &[i32],
@@ -40,7 +40,7 @@ pub fn output_undeclared(
 }
 
 // Some output of task t is no port of mode m.
-pub fn some_output_undeclared(
+pub fn some_output_no_mode_port(
     ports: &[i32],
     task_ports: &[i32],
     mode_ports: &[i32],
@@ -52,7 +52,7 @@ pub fn some_output_undeclared(
     let n = task_ports.len() / task_port::WIDTH;
     let mut k = 0;
     while k < n {
-        if output_undeclared(ports, task_ports, mode_ports, m, t, k) {
+        if output_no_mode_port(ports, task_ports, mode_ports, m, t, k) {
             return true;
         }
         k += 1;
@@ -87,7 +87,7 @@ pub fn some_output_shared(ports: &[i32], task_ports: &[i32], u: Task, t: Task) -
 }
 
 // Row k is an input of task t that driver d does not set.
-pub fn input_unset(
+pub fn input_no_destination(
     ports: &[i32],
     task_ports: &[i32],
     copies: &[i32],
@@ -105,7 +105,7 @@ pub fn input_unset(
 }
 
 // Some input of task t is not set by driver d.
-pub fn some_input_unset(
+pub fn some_input_no_destination(
     ports: &[i32],
     task_ports: &[i32],
     copies: &[i32],
@@ -117,7 +117,7 @@ pub fn some_input_unset(
     let n = task_ports.len() / task_port::WIDTH;
     let mut k = 0;
     while k < n {
-        if input_unset(ports, task_ports, copies, d, t, k) {
+        if input_no_destination(ports, task_ports, copies, d, t, k) {
             return true;
         }
         k += 1;

@@ -63,10 +63,10 @@ pub fn invocation_wrong(
     let m = table::mode(invocations, invocation::WIDTH, i, invocation::MODE);
     let t = table::task(invocations, invocation::WIDTH, i, invocation::TASK);
     let d = table::driver(invocations, invocation::WIDTH, i, invocation::DRIVER);
-    let outputs = task_ports::some_output_undeclared(ports, task_ports, mode_ports, m, t);
-    let sources = sources::some_source_unread(ports, drivers, copies, mode_ports, m, d);
+    let outputs = task_ports::some_output_no_mode_port(ports, task_ports, mode_ports, m, t);
+    let sources = sources::some_source_unreadable(ports, drivers, copies, mode_ports, m, d);
     let destinations = destinations::some_destination_no_input(ports, task_ports, copies, t, d);
-    let inputs = task_ports::some_input_unset(ports, task_ports, copies, d, t);
+    let inputs = task_ports::some_input_no_destination(ports, task_ports, copies, d, t);
     let always = guard::is_always(drivers, d);
     let clash = has_invocation_clash(ports, task_ports, invocations, i);
     outputs | sources | destinations | inputs | !always | clash

@@ -51,9 +51,9 @@ pub fn switch_wrong(
     let m = table::mode(switches, switch::WIDTH, i, switch::MODE);
     let target = table::mode(switches, switch::WIDTH, i, switch::TARGET);
     let d = table::driver(switches, switch::WIDTH, i, switch::DRIVER);
-    let sources = sources::some_source_unread(ports, drivers, copies, mode_ports, m, d);
-    let destinations = destinations::some_destination_undeclared(copies, mode_ports, target, d);
-    let unset = mode_ports::some_port_unset(copies, mode_ports, d, target);
+    let sources = sources::some_source_unreadable(ports, drivers, copies, mode_ports, m, d);
+    let destinations = destinations::some_destination_no_mode_port(copies, mode_ports, target, d);
+    let unset = mode_ports::some_port_no_destination(copies, mode_ports, d, target);
     let clash = has_switch_clash(drivers, switches, i);
     sources | destinations | unset | clash
 }

@@ -48,7 +48,7 @@ pub fn update_wrong(
 {
     let m = table::mode(updates, update::WIDTH, i, update::MODE);
     let d = table::driver(updates, update::WIDTH, i, update::DRIVER);
-    let sources = sources::some_source_undeclared(drivers, copies, mode_ports, m, d);
+    let sources = sources::some_source_no_mode_port(drivers, copies, mode_ports, m, d);
     let destinations = destinations::some_destination_no_actuator(ports, copies, d);
     let clash = has_update_clash(copies, updates, i);
     sources | destinations | clash

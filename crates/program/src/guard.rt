@@ -33,7 +33,7 @@ pub fn one_port(drivers: &[i32], d: Driver, e: Driver) -> bool
 }
 
 // The interval of d begins no later than that of e ends.
-pub fn begins_in_time(drivers: &[i32], d: Driver, e: Driver) -> bool
+pub fn low_at_most_high(drivers: &[i32], d: Driver, e: Driver) -> bool
     ensures { λ r. ⌜ ((T : Tables) → T .drivers ≡ now (drivers .entry) → r ≡ leZ (guardLow T (d .0)) (guardHigh T (e .0))) ⌝ }
 {
     let low = table::signed(drivers, driver::WIDTH, d.index(), driver::LOW);
@@ -52,5 +52,5 @@ pub fn guards_meet(drivers: &[i32], d: Driver, e: Driver) -> bool
         return true;
     }
     let apart = !one_port(drivers, d, e);
-    apart | (begins_in_time(drivers, d, e) & begins_in_time(drivers, e, d))
+    apart | (low_at_most_high(drivers, d, e) & low_at_most_high(drivers, e, d))
 }

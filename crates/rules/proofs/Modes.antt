@@ -17,13 +17,13 @@ use Rattle.program.specs.Sets.{Sensor, ModePort}
 use Rattle.program.proofs.Sets.{kind-says, input-says, output-says, mode-port-says, destination-says}
 use Rattle.program.proofs.Guards.{Sound, meet-says}
 use Rattle.rules.specs.Fields.{Fields}
-use Rattle.rules.specs.Modes.{unread, invocationClash, invocationWrong, invocationsBad, Invocations, updateClash, updateWrong, updatesBad, Updates, switchClash, switchWrong, switchesBad, Switches}
+use Rattle.rules.specs.Modes.{unreadable, invocationClash, invocationWrong, invocationsBad, Invocations, updateClash, updateWrong, updatesBad, Updates, switchClash, switchWrong, switchesBad, Switches}
 use Rattle.rules.proofs.Some.{some-output-bars, some-input-bars, some-port-bars, some-source-bars, some-destination-bars}
 
 module _ (T : Tables) where
-  unread-bars : (m p : ℕ) → Bars (unread T m p) (ModePort T m p ⊎ Sensor T p)
-  unfolding unread
-  unread-bars m p = bars-not (says-or (mode-port-says T m p) (kind-says T sensor p))
+  unreadable-bars : (m p : ℕ) → Bars (unreadable T m p) (ModePort T m p ⊎ Sensor T p)
+  unfolding unreadable
+  unreadable-bars m p = bars-not (says-or (mode-port-says T m p) (kind-says T sensor p))
 
   -- number 6 bars 001's condition on task invocations
   pub invocations-bar : Bars (invocationsBad T) (Invocations T)
@@ -36,7 +36,7 @@ module _ (T : Tables) where
       let t = invTask T i in
       let d = invDriver T i in
       some-output-bars T (λ p. bars-not (mode-port-says T m p)) t
-      or some-source-bars T (unread-bars m) d
+      or some-source-bars T (unreadable-bars m) d
       or some-destination-bars T (λ p. bars-not (input-says T t p)) d
       or some-input-bars T (λ p. bars-not (destination-says T d p)) t
       or bars-not (says-eq (guardKind T d) kindAlways)
@@ -91,7 +91,7 @@ module _ (T : Tables) (f : Fields T) (v : Values (T .drivers)) where
       (bars-below _
       (λ i h.
       let d = swDriver T i in
-      some-source-bars T (unread-bars T (swMode T i)) d
+      some-source-bars T (unreadable-bars T (swMode T i)) d
       or some-destination-bars T (λ p. bars-not (mode-port-says T (swTarget T i) p)) d
       or some-port-bars T (λ p. bars-not (destination-says T d p)) (swTarget T i)
       or bars-below i

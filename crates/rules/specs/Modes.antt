@@ -48,8 +48,8 @@ unfoldable pub someDestination : Tables → (ℕ → Bool) → ℕ → Bool
 someDestination T bad d = any (destinationWith T bad d) (copyCount T)
 
 -- a task driver or a mode driver reads only ports of the mode and sensors
-unfoldable pub unread : Tables → ℕ → ℕ → Bool
-unread T m p = not (isModePort T m p || isKind T sensor p)
+unfoldable pub unreadable : Tables → ℕ → ℕ → Bool
+unreadable T m p = not (isModePort T m p || isKind T sensor p)
 
 -- 6, invocation: an output of the task is no mode port; a source is neither mode port nor sensor; destinations are not exactly
 -- the task's inputs; guard not always; two rows in a mode have one task or share an output
@@ -61,7 +61,7 @@ invocationClash T i j =
 unfoldable pub invocationWrong : Tables → ℕ → Bool
 invocationWrong T i =
     someOutput T (λ p. not (isModePort T (invMode T i) p)) (invTask T i)
-    || someSource T (unread T (invMode T i)) (invDriver T i)
+    || someSource T (unreadable T (invMode T i)) (invDriver T i)
     || someDestination T (λ p. not (isInput T (invTask T i) p)) (invDriver T i)
     || someInput T (λ p. not (isDestination T (invDriver T i) p)) (invTask T i)
     || not (eqb (guardKind T (invDriver T i)) kindAlways)
@@ -114,7 +114,7 @@ switchClash T i j = eqb (swMode T j) (swMode T i) && meet (guardOf T (swDriver T
 
 unfoldable pub switchWrong : Tables → ℕ → Bool
 switchWrong T i =
-    someSource T (unread T (swMode T i)) (swDriver T i)
+    someSource T (unreadable T (swMode T i)) (swDriver T i)
     || someDestination T (λ p. not (isModePort T (swTarget T i) p)) (swDriver T i)
     || somePort T (λ p. not (isDestination T (swDriver T i) p)) (swTarget T i)
     || any (switchClash T i) i

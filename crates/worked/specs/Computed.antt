@@ -7,7 +7,7 @@ use Rattle.program.specs.Sets.{isKind, isTaskPort, modePortAt, isInput, isOutpu
 use Rattle.program.specs.Units.{misses, rowMisses, isMultiple, units}
 use Rattle.rules.specs.Declared.{samePort, taskPortClash, taskPortsBad, copyClash, copiesBad, modePortClash, modePortsBad}
 use Rattle.rules.specs.Fields.{inRange, portBad, taskBad, taskPortBad, alwaysFits, intervalFits, driverBad, copyBad, modeBad, modePortBad, invocationBad, updateBad, switchBad, startBad, fieldsBad}
-use Rattle.rules.specs.Modes.{ownPort, outputWith, inputWith, portWith, sourceWith, destinationWith, someOutput, someInput, somePort, someSource, someDestination, unread, invocationClash, invocationWrong, invocationsBad, updateClash, updateWrong, updatesBad, switchClash, switchWrong, switchesBad}
+use Rattle.rules.specs.Modes.{ownPort, outputWith, inputWith, portWith, sourceWith, destinationWith, someOutput, someInput, somePort, someSource, someDestination, unreadable, invocationClash, invocationWrong, invocationsBad, updateClash, updateWrong, updatesBad, switchClash, switchWrong, switchesBad}
 use Rattle.rules.specs.Shape.{badSlice, badLength, shapeBad}
 use Rattle.rules.specs.Timing.{unitsWrong, unitsBad, notWhole, wholeWrong, wholeBad}
 use Rattle.rules.specs.Verdict.{programVerdict}
@@ -21,5 +21,5 @@ use Rattle.machine.specs.Advance.{freshAnswer, advanceShapeBad, stateBad, advan
 use Rattle.text.specs.Shipped.{shipped}
 
 unfoldable pub computed : Unit {0}
-unfolding any firstFrom first nameOf numAt nameAt wordAt inside isMissing isKind isTaskPort modePortAt isInput isOutput isModePort copiesFrom copiesTo isSource isDestination misses rowMisses isMultiple units samePort taskPortClash taskPortsBad copyClash copiesBad modePortClash modePortsBad inRange portBad taskBad taskPortBad alwaysFits intervalFits driverBad copyBad modeBad modePortBad invocationBad updateBad switchBad startBad fieldsBad ownPort outputWith inputWith portWith sourceWith destinationWith someOutput someInput somePort someSource someDestination unread invocationClash invocationWrong invocationsBad updateClash updateWrong updatesBad switchClash switchWrong switchesBad badSlice badLength shapeBad unitsWrong unitsBad notWhole wholeWrong wholeBad programVerdict listingOf codeLong sliceShort compileVerdict listing windowHas inWindow shareTick dispatchFits idleFits precedes rowWrong rowsBad partBad rowCount joinedBad partShapeBad partVerdict supplierVerdict windowWrong windowsBad windowsShapeBad windowsVerdict freshAnswer advanceShapeBad stateBad advanceVerdict advanceAnswer shipped
+unfolding any firstFrom first nameOf numAt nameAt wordAt inside isMissing isKind isTaskPort modePortAt isInput isOutput isModePort copiesFrom copiesTo isSource isDestination misses rowMisses isMultiple units samePort taskPortClash taskPortsBad copyClash copiesBad modePortClash modePortsBad inRange portBad taskBad taskPortBad alwaysFits intervalFits driverBad copyBad modeBad modePortBad invocationBad updateBad switchBad startBad fieldsBad ownPort outputWith inputWith portWith sourceWith destinationWith someOutput someInput somePort someSource someDestination unreadable invocationClash invocationWrong invocationsBad updateClash updateWrong updatesBad switchClash switchWrong switchesBad badSlice badLength shapeBad unitsWrong unitsBad notWhole wholeWrong wholeBad programVerdict listingOf codeLong sliceShort compileVerdict listing windowHas inWindow shareTick dispatchFits idleFits precedes rowWrong rowsBad partBad rowCount joinedBad partShapeBad partVerdict supplierVerdict windowWrong windowsBad windowsShapeBad windowsVerdict freshAnswer advanceShapeBad stateBad advanceVerdict advanceAnswer shipped
 computed = tt

@@ -14,17 +14,17 @@ task-requires c κs = search needs
 driver-requires : tie.Need-driver-requires
 driver-requires c κs = search needs
 
-some-output-undeclared-requires : tie.Need-some-output-undeclared-requires
-some-output-undeclared-requires c κs = search needs
+some-output-no-mode-port-requires : tie.Need-some-output-no-mode-port-requires
+some-output-no-mode-port-requires c κs = search needs
 
-some-source-unread-requires : tie.Need-some-source-unread-requires
-some-source-unread-requires c κs = search needs
+some-source-unreadable-requires : tie.Need-some-source-unreadable-requires
+some-source-unreadable-requires c κs = search needs
 
 some-destination-no-input-requires : tie.Need-some-destination-no-input-requires
 some-destination-no-input-requires c κs = search needs
 
-some-input-unset-requires : tie.Need-some-input-unset-requires
-some-input-unset-requires c κs = search needs
+some-input-no-destination-requires : tie.Need-some-input-no-destination-requires
+some-input-no-destination-requires c κs = search needs
 
 is-always-requires : tie.Need-is-always-requires
 is-always-requires c κs = search needs
@@ -34,7 +34,7 @@ has-invocation-clash-requires c κs = search needs
 
 returns : tie.Need-returns
 unfolding invocationWrong
-returns c T e1 e2 e3 e4 e5 e6 = simp (c .has-invocation-clash .ensures T e1 e2 e6, c .before .is-always .ensures T e3, c .before .before .some-input-unset .ensures T e1 e2 e4, c .before .before .before .some-destination-no-input .ensures T e1 e2 e4, c .before .before .before .before .some-source-unread .ensures T e1 e3 e4 e5, c .before .before .before .before .before .some-output-undeclared .ensures T e1 e2 e5, c .before .before .before .before .before .before .driver .ensures, c .before .before .before .before .before .before .before .task .ensures, c .before .before .before .before .before .before .before .before .mode .ensures, ← e6) refl
+returns c T e1 e2 e3 e4 e5 e6 = simp (c .has-invocation-clash .ensures T e1 e2 e6, c .before .is-always .ensures T e3, c .before .before .some-input-no-destination .ensures T e1 e2 e4, c .before .before .before .some-destination-no-input .ensures T e1 e2 e4, c .before .before .before .before .some-source-unreadable .ensures T e1 e3 e4 e5, c .before .before .before .before .before .some-output-no-mode-port .ensures T e1 e2 e5, c .before .before .before .before .before .before .driver .ensures, c .before .before .before .before .before .before .before .task .ensures, c .before .before .before .before .before .before .before .before .mode .ensures, ← e6) refl
 
 pub invocation-wrong-spec : {M : Type 1} → statement M
 invocation-wrong-spec =
@@ -43,10 +43,10 @@ invocation-wrong-spec =
     mode-requires
     task-requires
     driver-requires
-    some-output-undeclared-requires
-    some-source-unread-requires
+    some-output-no-mode-port-requires
+    some-source-unreadable-requires
     some-destination-no-input-requires
-    some-input-unset-requires
+    some-input-no-destination-requires
     is-always-requires
     has-invocation-clash-requires
     returns)

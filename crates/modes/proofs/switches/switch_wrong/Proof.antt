@@ -14,21 +14,21 @@ mode-requires-2 c κs = search needs
 driver-requires : tie.Need-driver-requires
 driver-requires c κs = search needs
 
-some-source-unread-requires : tie.Need-some-source-unread-requires
-some-source-unread-requires c κs = search needs
+some-source-unreadable-requires : tie.Need-some-source-unreadable-requires
+some-source-unreadable-requires c κs = search needs
 
-some-destination-undeclared-requires : tie.Need-some-destination-undeclared-requires
-some-destination-undeclared-requires c κs = search needs
+some-destination-no-mode-port-requires : tie.Need-some-destination-no-mode-port-requires
+some-destination-no-mode-port-requires c κs = search needs
 
-some-port-unset-requires : tie.Need-some-port-unset-requires
-some-port-unset-requires c κs = search needs
+some-port-no-destination-requires : tie.Need-some-port-no-destination-requires
+some-port-no-destination-requires c κs = search needs
 
 has-switch-clash-requires : tie.Need-has-switch-clash-requires
 has-switch-clash-requires c κs = search needs
 
 returns : tie.Need-returns
 unfolding switchWrong
-returns c T e1 e2 e3 e4 e5 = simp (c .has-switch-clash .ensures T e2 e5, c .before .some-port-unset .ensures T e3 e4, c .before .before .some-destination-undeclared .ensures T e3 e4, c .before .before .before .some-source-unread .ensures T e1 e2 e3 e4, c .before .before .before .before .driver .ensures, c .before .before .before .before .before .mode2 .ensures, c .before .before .before .before .before .before .mode .ensures, ← e5) refl
+returns c T e1 e2 e3 e4 e5 = simp (c .has-switch-clash .ensures T e2 e5, c .before .some-port-no-destination .ensures T e3 e4, c .before .before .some-destination-no-mode-port .ensures T e3 e4, c .before .before .before .some-source-unreadable .ensures T e1 e2 e3 e4, c .before .before .before .before .driver .ensures, c .before .before .before .before .before .mode2 .ensures, c .before .before .before .before .before .before .mode .ensures, ← e5) refl
 
 pub switch-wrong-spec : {M : Type 1} → statement M
 switch-wrong-spec =
@@ -37,8 +37,8 @@ switch-wrong-spec =
     mode-requires
     mode-requires-2
     driver-requires
-    some-source-unread-requires
-    some-destination-undeclared-requires
-    some-port-unset-requires
+    some-source-unreadable-requires
+    some-destination-no-mode-port-requires
+    some-port-no-destination-requires
     has-switch-clash-requires
     returns)

@@ -11,8 +11,8 @@ mode-requires c κs = search needs
 driver-requires : tie.Need-driver-requires
 driver-requires c κs = search needs
 
-some-source-undeclared-requires : tie.Need-some-source-undeclared-requires
-some-source-undeclared-requires c κs = search needs
+some-source-no-mode-port-requires : tie.Need-some-source-no-mode-port-requires
+some-source-no-mode-port-requires c κs = search needs
 
 some-destination-no-actuator-requires : tie.Need-some-destination-no-actuator-requires
 some-destination-no-actuator-requires c κs = search needs
@@ -22,7 +22,7 @@ has-update-clash-requires c κs = search needs
 
 returns : tie.Need-returns
 unfolding updateWrong
-returns c T e1 e2 e3 e4 e5 = simp (c .has-update-clash .ensures T e3 e5, c .before .some-destination-no-actuator .ensures T e1 e3, c .before .before .some-source-undeclared .ensures T e2 e3 e4, c .before .before .before .driver .ensures, c .before .before .before .before .mode .ensures, ← e5) refl
+returns c T e1 e2 e3 e4 e5 = simp (c .has-update-clash .ensures T e3 e5, c .before .some-destination-no-actuator .ensures T e1 e3, c .before .before .some-source-no-mode-port .ensures T e2 e3 e4, c .before .before .before .driver .ensures, c .before .before .before .before .mode .ensures, ← e5) refl
 
 pub update-wrong-spec : {M : Type 1} → statement M
 update-wrong-spec =
@@ -30,7 +30,7 @@ update-wrong-spec =
     (tie.spec
     mode-requires
     driver-requires
-    some-source-undeclared-requires
+    some-source-no-mode-port-requires
     some-destination-no-actuator-requires
     has-update-clash-requires
     returns)

@@ -21,11 +21,11 @@ returns-2 c T e = sym (meets-always T _ _ (sym (c .before .before .before .is-al
 one-port-requires : tie.Need-one-port-requires
 one-port-requires c κs = search needs
 
-begins-in-time-requires : tie.Need-begins-in-time-requires
-begins-in-time-requires c κs = search needs
+low-at-most-high-requires : tie.Need-low-at-most-high-requires
+low-at-most-high-requires c κs = search needs
 
-begins-in-time-requires-2 : tie.Need-begins-in-time-requires-2
-begins-in-time-requires-2 c κs = search needs
+low-at-most-high-requires-2 : tie.Need-low-at-most-high-requires-2
+low-at-most-high-requires-2 c κs = search needs
 
 returns-3 : tie.Need-returns-3
 returns-3 c T e =
@@ -34,7 +34,7 @@ returns-3 c T e =
     sym
     (intervals-meet T _ _ unlike other
     ∙ ap₂ (λ (a b : Bool). not a || b) (sym (c .before .before .one-port .ensures T e))
-    (ap₂ _&&_ (sym (c .before .begins-in-time .ensures T e)) (sym (c .begins-in-time2 .ensures T e))))
+    (ap₂ _&&_ (sym (c .before .low-at-most-high .ensures T e)) (sym (c .low-at-most-high2 .ensures T e))))
 
 pub guards-meet-spec : {M : Type 1} → statement M
 guards-meet-spec =
@@ -45,6 +45,6 @@ guards-meet-spec =
     is-always-requires-2
     returns-2
     one-port-requires
-    begins-in-time-requires
-    begins-in-time-requires-2
+    low-at-most-high-requires
+    low-at-most-high-requires-2
     returns-3)
