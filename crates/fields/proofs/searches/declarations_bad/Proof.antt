@@ -5,7 +5,7 @@ use borrow.Author.Needs.{needs}
 use Rattle.theory.specs.Search.{any}
 use Rattle.program.specs.Tables.{Tables, portWidth, portCount, taskWidth, taskCount, taskPortWidth, taskPortCount, driverWidth, driverCount, copyWidth}
 use Rattle.rules.specs.Fields.{portBad, taskBad, taskPortBad, driverBad, copyBad}
-use Rattle.fields.proofs.Found.{hit-of, miss-of, test-of}
+use Rattle.cells.proofs.Rows.{hit-rows, miss-rows, test-rows}
 use Rattle.fields.proofs.searches.declarations_bad.Statement.{statement}
 use Rattle.fields.proofs.searches.declarations_bad.Tie as tie
 
@@ -13,31 +13,31 @@ use Rattle.fields.proofs.searches.declarations_bad.Tie as tie
 no-port : (c : tie.Else1) (T : Tables)
     → T .ports ≡ c .before .before .args .ports .now
     → any (portBad T) (portCount T) ≡ false
-no-port c T e = miss-of (portBad T) portWidth e (c .before .first-bad-port .ensures T e) (c .if1 .left)
+no-port c T e = miss-rows (portBad T) portWidth e (c .before .first-bad-port .ensures T e) (c .if1 .left)
 
 no-task : (c : tie.Else2) (T : Tables)
     → T .tasks ≡ c .before .before .before .before .args .tasks .now
     → any (taskBad T) (taskCount T) ≡ false
-no-task c T e = miss-of (taskBad T) taskWidth e (c .before .first-bad-task .ensures T e) (c .if2 .left)
+no-task c T e = miss-rows (taskBad T) taskWidth e (c .before .first-bad-task .ensures T e) (c .if2 .left)
 
 no-task-port : (c : tie.Else3) (T : Tables)
     → T .ports ≡ c .before .before .before .before .before .before .args .ports .now
     → T .tasks ≡ c .before .before .before .before .before .before .args .tasks .now
     → T .taskPorts ≡ c .before .before .before .before .before .before .args .task-ports .now
     → any (taskPortBad T) (taskPortCount T) ≡ false
-no-task-port c T e1 e2 e3 = miss-of (taskPortBad T) taskPortWidth e3 (c .before .first-bad-task-port .ensures T e1 e2 e3) (c .if3 .left)
+no-task-port c T e1 e2 e3 = miss-rows (taskPortBad T) taskPortWidth e3 (c .before .first-bad-task-port .ensures T e1 e2 e3) (c .if3 .left)
 
 no-driver : (c : tie.Else4) (T : Tables)
     → T .ports ≡ c .before .before .before .before .before .before .before .before .args .ports .now
     → T .drivers ≡ c .before .before .before .before .before .before .before .before .args .drivers .now
     → any (driverBad T) (driverCount T) ≡ false
-no-driver c T e1 e2 = miss-of (driverBad T) driverWidth e2 (c .before .first-bad-driver .ensures T e1 e2) (c .if4 .left)
+no-driver c T e1 e2 = miss-rows (driverBad T) driverWidth e2 (c .before .first-bad-driver .ensures T e1 e2) (c .if4 .left)
 
 first-bad-port-requires : tie.Need-first-bad-port-requires
 first-bad-port-requires c κs = search needs
 
 returns : tie.Need-returns
-returns c T e1 e2 e3 e4 e5 = simp (hit-of (portBad T) portWidth e1 (c .before .first-bad-port .ensures T e1) (c .if1 .taken))
+returns c T e1 e2 e3 e4 e5 = simp (hit-rows (portBad T) portWidth e1 (c .before .first-bad-port .ensures T e1) (c .if1 .taken))
 
 first-bad-task-requires : tie.Need-first-bad-task-requires
 first-bad-task-requires c κs = search needs
@@ -46,7 +46,7 @@ returns-2 : tie.Need-returns-2
 returns-2 c T e1 e2 e3 e4 e5 =
     simp (
       no-port (c .before .before) T e1,
-      hit-of (taskBad T) taskWidth e2 (c .before .first-bad-task .ensures T e2) (c .if2 .taken),
+      hit-rows (taskBad T) taskWidth e2 (c .before .first-bad-task .ensures T e2) (c .if2 .taken),
     )
 
 first-bad-task-port-requires : tie.Need-first-bad-task-port-requires
@@ -57,7 +57,7 @@ returns-3 c T e1 e2 e3 e4 e5 =
     simp (
       no-port (c .before .before .before .before) T e1,
       no-task (c .before .before) T e2,
-      hit-of (taskPortBad T) taskPortWidth e3 (c .before .first-bad-task-port .ensures T e1 e2 e3) (c .if3 .taken),
+      hit-rows (taskPortBad T) taskPortWidth e3 (c .before .first-bad-task-port .ensures T e1 e2 e3) (c .if3 .taken),
     )
 
 first-bad-driver-requires : tie.Need-first-bad-driver-requires
@@ -69,7 +69,7 @@ returns-4 c T e1 e2 e3 e4 e5 =
       no-port (c .before .before .before .before .before .before) T e1,
       no-task (c .before .before .before .before) T e2,
       no-task-port (c .before .before) T e1 e2 e3,
-      hit-of (driverBad T) driverWidth e4 (c .before .first-bad-driver .ensures T e1 e4) (c .if4 .taken),
+      hit-rows (driverBad T) driverWidth e4 (c .before .first-bad-driver .ensures T e1 e4) (c .if4 .taken),
     )
 
 first-bad-copy-requires : tie.Need-first-bad-copy-requires
@@ -82,7 +82,7 @@ returns-5 c T e1 e2 e3 e4 e5 =
       no-task (c .before .before .before .before .before) T e2,
       no-task-port (c .before .before .before) T e1 e2 e3,
       no-driver (c .before) T e1 e4,
-      test-of (copyBad T) copyWidth e5 (c .first-bad-copy .ensures T e1 e4 e5),
+      test-rows (copyBad T) copyWidth e5 (c .first-bad-copy .ensures T e1 e4 e5),
     )
 
 pub declarations-bad-spec : {M : Type 1} → statement M
