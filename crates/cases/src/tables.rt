@@ -1,6 +1,7 @@
 // Slices, and the ten of a program: as much of each as there is room for.
-ghost use Prim.Native.Nat.{_≤_};
-ghost use lib.ListN.{length};
+ghost use Prim.Native.Nat.{_≤_, min};
+ghost use mathlib.Core.Path.{_≡_};
+ghost use lib.ListN.{length, take, drop};
 use crate::numbers;
 use crate::room;
 use crate::stream::Reader;
@@ -35,7 +36,7 @@ pub struct Lengths {
 
 // The smaller of two.
 fn least(a: usize, b: usize) -> usize
-    ensures { λ r. ⌜ r ≤ b ⌝ }
+    ensures { λ r. ⌜ r ≡ min a b ⌝ }
 {
     if a < b {
         return a;
@@ -77,7 +78,9 @@ pub fn slice(r: Reader, buffer: &mut [u8], out: &mut [i32]) -> Kept
 }
 
 // The n numbers from a place on, as many as there are.
-pub fn part(room: &[i32], at: usize, n: usize) -> &[i32] {
+pub fn part(room: &[i32], at: usize, n: usize) -> &[i32]
+    ensures { λ r. ⌜ now r ≡ take n (drop at (now (room .entry))) ⌝ }
+{
     let from = least(at, room.len());
     let end = from + least(n, room.len() - from);
     &room[from..end]
