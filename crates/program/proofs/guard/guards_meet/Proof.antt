@@ -1,8 +1,10 @@
 -- `program::guard::guards_meet` meets its contract: by the kinds of the two guards. Assumes nothing.
 use Rattle.program.proofs.Guards.{always-meets, meets-always, intervals-meet}
-use mathlib.Core.Path.{sym, ap₂, _∙_}
+use mathlib.Core.Path.{_≡_, sym, ap₂, _∙_}
 use mathlib.Core.Bool.{Bool, not, _&&_, _||_}
+use lib.Signed.{leZ}
 use borrow.Author.Needs.{needs}
+use Rattle.program.specs.Tables.{guardLow, guardHigh}
 use Rattle.program.proofs.guard.guards_meet.Statement.{statement}
 use Rattle.program.proofs.guard.guards_meet.Tie as tie
 
@@ -31,10 +33,13 @@ returns-3 : tie.Need-returns-3
 returns-3 c T e =
     let unlike = sym (c .before .before .before .before .before .before .is-always .ensures T e) ∙ c .before .before .before .before .before .if1 .left in
     let other = sym (c .before .before .before .before .is-always2 .ensures T e) ∙ c .before .before .before .if2 .left in
+    let a = c .before .before .before .before .before .before .before .args in
+    let there : leZ (guardLow T (a .d .0)) (guardHigh T (a .e .0)) ≡ c .before .low-at-most-high .result = sym (c .before .low-at-most-high .ensures T e) in
+    let back : leZ (guardLow T (a .e .0)) (guardHigh T (a .d .0)) ≡ c .low-at-most-high2 .result = sym (c .low-at-most-high2 .ensures T e) in
     sym
     (intervals-meet T _ _ unlike other
     ∙ ap₂ (λ (a b : Bool). not a || b) (sym (c .before .before .one-port .ensures T e))
-    (ap₂ _&&_ (sym (c .before .low-at-most-high .ensures T e)) (sym (c .low-at-most-high2 .ensures T e))))
+    (ap₂ _&&_ there back))
 
 pub guards-meet-spec : {M : Type 1} → statement M
 guards-meet-spec =
