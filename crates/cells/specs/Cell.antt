@@ -62,6 +62,10 @@ valueAt width column t row = cellAt t (row * width + column)
 unfoldable pub wordAt : List ℕ → ℕ → ℕ
 wordAt code i = getD code i 0
 
+-- no word is greater
+abbrev pub greatestWord : ℕ
+greatestWord = 4294967295
+
 -- two signed numbers are equal
 abbrev pub eqZ : ℤ → ℤ → Bool
 eqZ (pos a) (pos b) = eqb a b

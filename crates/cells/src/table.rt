@@ -1,6 +1,8 @@
 // Total access to a lent table by place, and by row and column. Past the end stands 0.
 ghost use mathlib.Core.Path.{_≡_};
-ghost use Rattle.cells.specs.Cell.{Column, cellAt, indexOf, numAt, wordAt, fieldAt, namedAt, valueAt};
+ghost use Prim.Native.Nat.{_≤_};
+ghost use lib.ListN.{set};
+ghost use Rattle.cells.specs.Cell.{Column, cellAt, indexOf, numAt, wordAt, greatestWord, fieldAt, namedAt, valueAt};
 use crate::kinds::Driver;
 use crate::kinds::Mode;
 use crate::kinds::Port;
@@ -47,6 +49,16 @@ pub fn word(code: &[u32], at: usize) -> usize
         return code[at] as usize;
     }
     0
+}
+
+// A word put at a place; past the end nothing is.
+pub fn put(code: &mut [u32], at: usize, n: usize)
+    requires { ⌜ n ≤ greatestWord ⌝ }
+    ensures { λ _. ⌜ now (code .exit) ≡ set (now (code .entry)) at n ⌝ }
+{
+    if at < code.len() {
+        code[at] = n as u32;
+    }
 }
 
 // A column of a row, as a number.

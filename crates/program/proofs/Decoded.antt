@@ -12,11 +12,11 @@ use borrow.Author.Tests.{eqb-true, eqb-false, eq-eqb}
 use Rattle.theory.specs.Claim.{Says}
 use Rattle.theory.specs.Lists.{those, keep, member}
 use Rattle.theory.proofs.Bools.{clash, says-eq, is-true, _and_}
-use Rattle.theory.proofs.Lists.{each-length, each-at, every-each, every-at}
+use Rattle.theory.proofs.Lists.{each-length, each-at, every-each, every-at, keep-those}
 use Rattle.theory.proofs.Members.{Has, has-those, has-keep, has-map, member-says}
-use Rattle.program.specs.Tables.{Tables, output, taskCount, taskPortCount, tpTask, tpPort, driverCount, copyCount, copyDriver, modeCount, invocationCount, invMode, invFrequency, invTask, updateCount, updMode, updFrequency, switchCount, swMode, swFrequency}
+use Rattle.program.specs.Tables.{Tables, output, taskCount, taskPortCount, tpTask, tpPort, driverCount, copyCount, copyDriver, modeCount, invocationWidth, invocationCount, invMode, invFrequency, invTask, updateWidth, updateCount, updMode, updFrequency, switchWidth, switchCount, swMode, swFrequency}
 use Rattle.program.specs.Sets.{isKind, OfKind}
-use Rattle.program.specs.Units.{units, due}
+use Rattle.program.specs.Units.{units, due, rowDue, dueRows}
 use Rattle.program.specs.Program.{Copy, Task, Invocation, Update, Switch, Mode, copyRow, driverRow, portsOf, taskRow, invocationRow, updateRow, switchRow, modeRow, programOf, task, driver, mode, nextUnit, dueInvocations, dueUpdates, dueSwitches, dueTasks}
 use Rattle.program.proofs.Sets.{kind-says}
 
@@ -78,6 +78,19 @@ module _ (T : Tables) where
       (every-each _ (taskRow T) (taskCount T) 0
       (λ i l u m.
       let (k, h, (e, q), s) = has-ports (λ x. p ≡ x) output i .0 (member-says p (portsOf T output i) .yes m) in rw s q)) t
+
+  -- the due rows of a mode are the due rows of the tables
+  pub due-invocations : (m k : ℕ) → dueInvocations (modeRow T m) k ≡ dueRows invocationWidth (T .invocations) m (units T m) k (invocationRow T)
+  unfolding rowDue
+  due-invocations m k = keep-those _ _ (invocationRow T) (invocationCount T) 0
+
+  pub due-updates : (m k : ℕ) → dueUpdates (modeRow T m) k ≡ dueRows updateWidth (T .updates) m (units T m) k (updateRow T)
+  unfolding rowDue
+  due-updates m k = keep-those _ _ (updateRow T) (updateCount T) 0
+
+  pub due-switches : (m k : ℕ) → dueSwitches (modeRow T m) k ≡ dueRows switchWidth (T .switches) m (units T m) k (switchRow T)
+  unfolding rowDue
+  due-switches m k = keep-those _ _ (switchRow T) (switchCount T) 0
 
   -- some row of a table of n rows is of mode m, due at its unit k, and has Q
   abbrev pub DueRow : ℕ → (ℕ → ℕ) → (ℕ → ℕ) → ℕ → ℕ → (ℕ → Type 0) → Type 0

@@ -8,6 +8,8 @@ use mathlib.Core.Logic.{_⊎_}
 use lib.Dec.{eqb}
 use lib.IntN.{ℤ}
 use Rattle.theory.specs.Search.{any, first}
+use Rattle.theory.specs.Lists.{those}
+use Rattle.cells.specs.Cell.{rowsIn}
 use Rattle.cells.specs.Limits.{maxUnits}
 use Rattle.program.specs.Tables.{Tables, rowMode, rowFrequency, invocationWidth, updateWidth, switchWidth, invocationCount, invMode, invFrequency, updateCount, updMode, updFrequency, switchCount, swMode, swFrequency}
 
@@ -34,6 +36,14 @@ units T m = suc (first (λ u. isMultiple T m (suc u)) maxUnits)
 -- a row of frequency f is due at unit k of u when k is a multiple of u / f
 abbrev pub due : ℕ → ℕ → ℕ → Bool
 due u f k = eqb (k % (u / f)) 0
+
+-- row i of invocations, updates or switches is of mode m, which has u units, and due at unit k
+unfoldable pub rowDue : ℕ → List ℤ → ℕ → ℕ → ℕ → ℕ → Bool
+rowDue width t m u k i = eqb (rowMode width t i) m && due u (rowFrequency width t i) k
+
+-- of the rows that are, what stands in each, in table order
+abbrev pub dueRows : {A : Type 0} → ℕ → List ℤ → ℕ → ℕ → ℕ → (ℕ → A) → List A
+dueRows width t m u k row = those (rowDue width t m u k) row (rowsIn width t) 0
 
 -- The same as claims. The mode frequencies of m (001, section 3.2)
 abbrev pub Frequency : Tables → ℕ → ℕ → Type 0

@@ -10,7 +10,8 @@ use borrow.Author.Tests.{le-leb, lt-leb}
 use mir.Syntax.{w32}
 use mir.Val.{SFits, toZ}
 use mir.Facts.{toZ-pos}
-use Rattle.text.specs.Decimal.{farthest, greatestWord, negative, notNegative, asWord}
+use Rattle.cells.specs.Cell.{greatestWord}
+use Rattle.text.specs.Decimal.{farthest, negative, notNegative, asWord}
 use Rattle.text.specs.Part.{tooLarge, signedAs, wordAs}
 use Rattle.text.specs.declared.number.Signed.{Signed}
 use Rattle.text.specs.declared.number.Word.{Word}

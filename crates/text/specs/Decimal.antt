@@ -6,6 +6,7 @@ use mathlib.Core.List.{List, [], _∷_}
 use mathlib.Core.Option.{Option, none, some}
 use lib.Dec.{eqb, ltb, leb}
 use lib.IntN.{ℤ, pos, negsuc}
+use Rattle.cells.specs.Cell.{greatestWord}
 
 abbrev pub digitZero : ℕ
 digitZero = 48
@@ -58,9 +59,6 @@ number [] = none
 number (b ∷ bs) = elim (eqb b minus) [ true ↦ negative (magnitude bs) | false ↦ notNegative (magnitude (b ∷ bs)) ]
 
 -- a number of 32 bits that is not negative: digits only
-abbrev pub greatestWord : ℕ
-greatestWord = 4294967295
-
 abbrev pub asWord : Option ℕ → Option ℕ
 asWord none = none
 asWord (some n) = elim (leb n greatestWord) [ true ↦ some n | false ↦ none ]

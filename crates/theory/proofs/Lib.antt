@@ -3,6 +3,7 @@ pub mod Bools
 pub mod Conditions
 pub mod Search
 pub mod Lists
+pub mod Counting
 pub mod Members
 pub mod Puts
 pub mod Due

@@ -1,8 +1,8 @@
 -- The laws of sums and pieces over the numbers below a bound, and of rows that pass a test.
 -- Assumes nothing.
-use Prim.Native.Nat.{ℕ, zero, suc, _+_, _*_, _≤_, _<_}
+use Prim.Native.Nat.{ℕ, zero, suc, _+_, _-_, _*_, _≤_, _<_}
 use mathlib.Core.Path.{_≡_, refl, ap, sym, _∙_}
-use mathlib.Core.Bool.{Bool, true, false}
+use mathlib.Core.Bool.{Bool, true, false, _&&_}
 use mathlib.Core.List.{List, [], _∷_, _++_, map}
 use native.Mathlib.Nat.{add-zero, zero-add, add-suc, suc-mul, zero-mul}
 use native.Mathlib.Omega.{arith}
@@ -113,6 +113,57 @@ module _ {A : Type 0} where
       go true e r = (h i₀ (omega arith) (omega arith) e, r)
       go false e r = r
 
+  -- what is left of the rows, as a loop over them goes on: this row and the rest, the rest alone, nothing
+  pub those-yes : (p : ℕ → Bool) (row : ℕ → A) (n i : ℕ) → i < n → p i ≡ true → those p row (n - i) i ≡ row i ∷ those p row (n - (i + 1)) (i + 1)
+  those-yes p row n i l e =
+      let z : n - i ≡ suc (n - (i + 1)) = omega arith in ap (λ (k : ℕ). those p row k i) z ∙ rw (e, those)
+
+  pub those-no : (p : ℕ → Bool) (row : ℕ → A) (n i : ℕ) → i < n → p i ≡ false → those p row (n - i) i ≡ those p row (n - (i + 1)) (i + 1)
+  those-no p row n i l e =
+      let z : n - i ≡ suc (n - (i + 1)) = omega arith in ap (λ (k : ℕ). those p row k i) z ∙ rw (e, those)
+
+  pub those-end : (p : ℕ → Bool) (row : ℕ → A) (n i : ℕ) → n ≤ i → those p row (n - i) i ≡ []
+  those-end p row n i l = let z : n - i ≡ 0 = omega arith in ap (λ (k : ℕ). those p row k i) z
+
+  -- no more than there are rows
+  pub those-few : (p : ℕ → Bool) (row : ℕ → A) (n i : ℕ) → length (those p row n i) ≤ n
+  those-few p row zero i = omega arith
+  those-few p row (suc n) i = go (p i) (those-few p row n (i + 1))
+    where
+      go : (b : Bool) → length (those p row n (i + 1)) ≤ n
+          → length {A = A} (elim b [ true ↦ row i ∷ those p row n (i + 1) | false ↦ those p row n (i + 1) ]) ≤ suc n
+      go true h = omega arith
+      go false h = omega arith
+
+  -- tests that agree on the rows pass the same
+  pub those-same : (p q : ℕ → Bool) (row : ℕ → A) (n i₀ : ℕ)
+      → ((i : ℕ) → i₀ ≤ i → i < i₀ + n → p i ≡ q i) → those p row n i₀ ≡ those q row n i₀
+  those-same p q row zero i₀ h = refl
+  those-same p q row (suc n) i₀ h =
+      rw (h i₀ (omega arith) (omega arith), those) (go (q i₀) (those-same p q row n (i₀ + 1) (λ i l u. h i (omega arith) (omega arith))))
+    where
+      go : (b : Bool) → those p row n (i₀ + 1) ≡ those q row n (i₀ + 1)
+          → _≡_ {A = List A} (elim b [ true ↦ row i₀ ∷ those p row n (i₀ + 1) | false ↦ those p row n (i₀ + 1) ])
+          (elim b [ true ↦ row i₀ ∷ those q row n (i₀ + 1) | false ↦ those q row n (i₀ + 1) ])
+      go true e = ap (λ (l : List A). row i₀ ∷ l) e
+      go false e = e
+
+  -- those that pass one test, and of them those whose row passes another, pass both
+  pub keep-those : (f : A → Bool) (p : ℕ → Bool) (row : ℕ → A) (n i : ℕ)
+      → keep f (those p row n i) ≡ those (λ j. p j && f (row j)) row n i
+  keep-those f p row zero i = refl
+  keep-those f p row (suc n) i = go (p i) (f (row i)) refl (keep-those f p row n (i + 1))
+    where
+      rest : List A
+      rest = those (λ j. p j && f (row j)) row n (i + 1)
+
+      go : (a b : Bool) → f (row i) ≡ b → keep f (those p row n (i + 1)) ≡ rest
+          → keep f (elim a [ true ↦ row i ∷ those p row n (i + 1) | false ↦ those p row n (i + 1) ])
+          ≡ elim (a && b) [ true ↦ row i ∷ rest | false ↦ rest ]
+      go true true e h = rw (e, keep) (ap (λ (l : List A). row i ∷ l) h)
+      go true false e h = rw (e, keep) h
+      go false b e h = h
+
   -- a claim of each row is a claim of all
   pub every-each : (Q : A → Type 0) (row : ℕ → A) (n i₀ : ℕ)
       → ((i : ℕ) → i₀ ≤ i → i < i₀ + n → Q (row i)) → Every Q (each row n i₀)
@@ -156,3 +207,14 @@ module _ {A : Type 0} where
 pub every-image : {A B : Type 0} (P : B → Type 0) (f : A → B) (xs : List A) → Every (λ x. P (f x)) xs → Every P (map f xs)
 every-image P f [] h = tt
 every-image P f (x ∷ xs) h = (h .0, every-image P f xs (h .1))
+
+-- the images of those that pass
+pub map-those : {A B : Type 0} (f : A → B) (p : ℕ → Bool) (row : ℕ → A) (n i : ℕ) → map f (those p row n i) ≡ those p (λ j. f (row j)) n i
+map-those f p row zero i = refl
+map-those {A} {B} f p row (suc n) i = go (p i) (map-those f p row n (i + 1))
+  where
+    go : (b : Bool) → map f (those p row n (i + 1)) ≡ those p (λ j. f (row j)) n (i + 1)
+        → map f (elim b [ true ↦ row i ∷ those p row n (i + 1) | false ↦ those p row n (i + 1) ])
+        ≡ elim b [ true ↦ f (row i) ∷ those p (λ j. f (row j)) n (i + 1) | false ↦ those p (λ j. f (row j)) n (i + 1) ]
+    go true e = ap (λ (l : List B). f (row i) ∷ l) e
+    go false e = e
