@@ -1,3 +1,2 @@
--- Why a table may be cut to its buffer, and what a part of a room is.
+-- Why a table may be cut to its buffer.
 pub mod Cut
-pub mod Held

@@ -1,10 +1,10 @@
 // Slices, and the ten of a program: as much of each as there is room for.
-ghost use Prim.Native.Nat.{_≤_, min};
-ghost use mathlib.Core.Path.{_≡_};
-ghost use lib.ListN.{length, take, drop};
+ghost use Prim.Native.Nat.{_≤_};
+ghost use lib.ListN.{length};
 use crate::numbers;
 use crate::room;
 use crate::stream::Reader;
+use cells::parts::least;
 
 // How many of a slice's numbers were kept.
 pub struct Kept {
@@ -32,16 +32,6 @@ pub struct Lengths {
     pub invocations: usize,
     pub updates: usize,
     pub switches: usize,
-}
-
-// The smaller of two.
-fn least(a: usize, b: usize) -> usize
-    ensures { λ r. ⌜ r ≡ min a b ⌝ }
-{
-    if a < b {
-        return a;
-    }
-    b
 }
 
 fn keep(out: &mut [i32], at: usize, value: i32) {
@@ -75,15 +65,6 @@ pub fn slice(r: Reader, buffer: &mut [u8], out: &mut [i32]) -> Kept
 {
     let amount = numbers::count(r, buffer);
     fill(amount.reader, buffer, amount.value, out)
-}
-
-// The n numbers from a place on, as many as there are.
-pub fn part(room: &[i32], at: usize, n: usize) -> &[i32]
-    ensures { λ r. ⌜ now r ≡ take n (drop at (now (room .entry))) ⌝ }
-{
-    let from = least(at, room.len());
-    let end = from + least(n, room.len() - from);
-    &room[from..end]
 }
 
 // A slice into its place, which ends where the next begins; as much of it as is in the room.

@@ -4,3 +4,4 @@ pub mod Names
 pub mod Place
 pub mod Rows
 pub mod Readings
+pub mod Held

@@ -1,6 +1,7 @@
-// The leaf: numbers of lent tables by row and named column, the four kinds, readings, limits. Every access is total.
+// The leaf: numbers of lent tables by row and named column, parts of a slice, the four kinds, readings, limits. Every access is total.
 pub mod columns;
 pub mod kinds;
 pub mod limits;
+pub mod parts;
 pub mod reading;
 pub mod table;

@@ -2,6 +2,8 @@
 pub mod Length
 pub mod At
 pub mod Place
+pub mod Futures
 pub mod Words
+pub mod Fetch
 pub mod Inside
 pub mod Accepted

@@ -8,14 +8,14 @@ use native.Mathlib.Nat.{mod-self, mod-eq-of-lt, mod-lt}
 use native.Mathlib.Omega.{arith}
 use lib.Dec.{eqb}
 use lib.ListN.{length}
-use borrow.Author.Tests.{eqb-true, eqb-false, eq-eqb}
+use borrow.Author.Tests.{eqb-true, eqb-false, eq-eqb, lt-ltb}
 use Rattle.theory.specs.Claim.{Says}
 use Rattle.theory.specs.Lists.{those, keep, member}
 use Rattle.theory.proofs.Bools.{clash, says-eq, is-true, _and_}
-use Rattle.theory.proofs.Lists.{each-length, each-at, every-each, every-at, keep-those}
+use Rattle.theory.proofs.Lists.{each-length, each-at, every-each, every-at, keep-those, those-same}
 use Rattle.theory.proofs.Members.{Has, has-those, has-keep, has-map, member-says}
-use Rattle.program.specs.Tables.{Tables, output, taskCount, taskPortCount, tpTask, tpPort, driverCount, copyCount, copyDriver, modeCount, invocationWidth, invocationCount, invMode, invFrequency, invTask, updateWidth, updateCount, updMode, updFrequency, switchWidth, switchCount, swMode, swFrequency}
-use Rattle.program.specs.Sets.{isKind, OfKind}
+use Rattle.program.specs.Tables.{Tables, portCount, output, taskCount, taskPortCount, tpTask, tpPort, driverCount, copyCount, copyDriver, modeCount, invocationWidth, invocationCount, invMode, invFrequency, invTask, updateWidth, updateCount, updMode, updFrequency, switchWidth, switchCount, swMode, swFrequency}
+use Rattle.program.specs.Sets.{isKind, OfKind, sensorRows}
 use Rattle.program.specs.Units.{units, due, rowDue, dueRows}
 use Rattle.program.specs.Program.{Copy, Task, Invocation, Update, Switch, Mode, copyRow, driverRow, portsOf, taskRow, invocationRow, updateRow, switchRow, modeRow, programOf, task, driver, mode, nextUnit, dueInvocations, dueUpdates, dueSwitches, dueTasks}
 use Rattle.program.proofs.Sets.{kind-says}
@@ -36,6 +36,11 @@ module _ (T : Tables) where
   -- the program has as many modes as the tables have rows
   pub mode-count : length (programOf T .modes) ≡ modeCount T
   mode-count = each-length (modeRow T) (modeCount T) 0
+
+  -- the sensors of the program are the rows of the ports that are sensors
+  pub sensors-rows : programOf T .sensors ≡ sensorRows (T .ports) (λ p. p)
+  unfolding isKind
+  sensors-rows = those-same _ _ (λ p. p) (portCount T) 0 (λ p l h. simp (lt-ltb p (portCount T) (omega arith)) refl)
 
   -- the task of a declared number is its row
   pub task-row : (t : ℕ) → t < taskCount T → task (programOf T) t ≡ taskRow T t

@@ -10,7 +10,7 @@ use native.Mathlib.Omega.{arith}
 use Rattle.theory.specs.Claim.{Says, Bars}
 use Rattle.theory.specs.Search.{first}
 use Rattle.theory.proofs.Bools.{says-as, says-eq, bars-not, bars-as, _or_, says-bars}
-use Rattle.theory.proofs.Search.{first-has, first-least, rows-bar}
+use Rattle.theory.proofs.Search.{first-within, first-has, first-least, rows-bar}
 use Rattle.cells.specs.Limits.{maxUnits}
 use Rattle.program.specs.Tables.{Tables, invMode, invFrequency, updMode, updFrequency, swMode, swFrequency}
 use Rattle.program.specs.Units.{misses, rowMisses, isMultiple, units, Multiple, Units}
@@ -37,6 +37,11 @@ module _ (T : Tables) (m : ℕ) where
   pub units-some : 1 ≤ units T m
   unfolding units
   units-some = omega arith
+
+  -- and at most one more than the limit
+  pub units-within : units T m ≤ suc maxUnits
+  unfolding units
+  units-within = omega (arith, first-within (λ u. isMultiple T m (suc u)) maxUnits)
 
   -- what the search finds is the least: what is left over of another multiple is a smaller one
   pub units-least : units T m ≤ maxUnits → Units T m (units T m)

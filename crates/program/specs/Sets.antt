@@ -4,10 +4,14 @@
 use Prim.Native.Nat.{ℕ, _<_}
 use mathlib.Core.Path.{_≡_}
 use mathlib.Core.Bool.{Bool, _&&_, _||_}
+use mathlib.Core.List.{List}
 use mathlib.Core.Logic.{_⊎_}
 use lib.Dec.{eqb, ltb}
+use lib.IntN.{ℤ}
 use Rattle.theory.specs.Search.{any}
-use Rattle.program.specs.Tables.{Tables, portCount, portKind, sensor, actuator, input, output, taskPortCount, tpTask, tpPort, guardKind, guardPort, kindInterval, copyCount, copyDriver, copySource, copyDestination, modePortCount, mpMode, mpPort}
+use Rattle.theory.specs.Lists.{those}
+use Rattle.cells.specs.Cell.{rowsIn, fieldAt}
+use Rattle.program.specs.Tables.{Tables, portWidth, portCount, portKind, sensor, actuator, input, output, taskPortCount, tpTask, tpPort, guardKind, guardPort, kindInterval, copyCount, copyDriver, copySource, copyDestination, modePortCount, mpMode, mpPort}
 
 -- p is a declared port of this kind
 unfoldable pub isKind : Tables → ℕ → ℕ → Bool
@@ -44,6 +48,10 @@ isSource T d p = any (copiesFrom T d p) (copyCount T) || (eqb (guardKind T d) ki
 
 unfoldable pub isDestination : Tables → ℕ → ℕ → Bool
 isDestination T d p = any (copiesTo T d p) (copyCount T)
+
+-- of the rows of these ports that are sensors, what stands in each, in table order
+abbrev pub sensorRows : {A : Type 0} → List ℤ → (ℕ → A) → List A
+sensorRows ports row = those (λ p. eqb (fieldAt portWidth 0 ports p) sensor) row (rowsIn portWidth ports) 0
 
 -- The same as claims.
 abbrev pub OfKind : Tables → ℕ → ℕ → Type 0

@@ -1,8 +1,20 @@
--- The laws of numbers as text.
+-- The laws of numbers as text, of the lines and pages of a listing, and of reading it back.
 pub mod Capped
 pub mod Cut
 pub mod Digits
-pub mod Line
+pub mod LineEnd
 pub mod Signs
 pub mod SignedNumber
 pub mod WordNumber
+pub mod Decimals
+pub mod Lines
+pub mod Said
+pub mod Pages
+pub mod Laying
+pub mod Filling
+pub mod Magnitude
+pub mod Parts
+pub mod Inverted
+pub mod Joined
+pub mod WordsRead
+pub mod ReadAsPrinted

@@ -14,7 +14,7 @@ use Rattle.text.specs.Part.{tooLarge, capped, startPart, partAfter, part
 use Rattle.text.specs.declared.number.Part.{Part}
 use Rattle.text.specs.declared.number.Word.{Word}
 use Rattle.text.proofs.Capped.{capped-small, capped-large}
-use Rattle.text.proofs.Line.{read, Come, after-minus, from-start, start-read, minus-read}
+use Rattle.text.proofs.LineEnd.{read, Come, after-minus, from-start, start-read, minus-read}
 use Rattle.text.proofs.Signs.{past-word}
 
 -- a sign and the value of digits

@@ -4,6 +4,8 @@ pub mod Conditions
 pub mod Search
 pub mod Lists
 pub mod Counting
+pub mod Summing
+pub mod Filled
 pub mod Members
 pub mod Puts
 pub mod Due

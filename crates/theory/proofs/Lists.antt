@@ -7,7 +7,7 @@ use mathlib.Core.List.{List, [], _∷_, _++_, map}
 use native.Mathlib.Nat.{add-zero, zero-add, add-suc, suc-mul, zero-mul}
 use native.Mathlib.Omega.{arith}
 use native.Mathlib.Decide.{decLt}
-use lib.ListN.{length, getD, length-append}
+use lib.ListN.{length, getD, length-append, length-map}
 use Rattle.theory.specs.Lists.{those, each, keep, Every, cat, sum}
 
 -- a test that passes counts one
@@ -38,6 +38,11 @@ sum-zero n = omega (arith, sum-const 0 n)
 pub sum-split : (g : ℕ → ℕ) (n m : ℕ) → sum g (n + m) ≡ sum g n + sum (λ k. g (n + k)) m
 sum-split g n zero = rw (add-zero n) (omega arith)
 sum-split g n (suc m) = rw add-suc (omega (arith, sum-split g n m))
+
+-- numbers that are at most c add up to at most n times c
+pub sum-most : (g : ℕ → ℕ) (c n : ℕ) → ((k : ℕ) → k < n → g k ≤ c) → sum g n ≤ n * c
+sum-most g c zero h = omega arith
+sum-most g c (suc n) h = omega (arith, sum-most g c n (λ k l. h k (omega arith)), h n (omega arith), suc-mul n c)
 
 -- the part of a number lies wholly before the start of a greater one
 pub sum-apart : (g : ℕ → ℕ) (k n : ℕ) → k < n → sum g k + g k ≤ sum g n
@@ -218,3 +223,7 @@ map-those {A} {B} f p row (suc n) i = go (p i) (map-those f p row n (i + 1))
         ≡ elim b [ true ↦ f (row i) ∷ those p (λ j. f (row j)) n (i + 1) | false ↦ those p (λ j. f (row j)) n (i + 1) ]
     go true e = ap (λ (l : List B). f (row i) ∷ l) e
     go false e = e
+
+-- what stands in a row does not change how many pass
+pub those-count : {A : Type 0} (p : ℕ → Bool) (row : ℕ → A) (n i : ℕ) → length (those p row n i) ≡ length (those p (λ j. j) n i)
+those-count p row n i = ap length (sym (map-those row p (λ j. j) n i)) ∙ length-map (those p (λ j. j) n i) row

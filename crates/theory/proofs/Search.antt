@@ -110,6 +110,14 @@ module _ (p : ℕ → Bool) where
   first-clear : (n : ℕ) → any p n ≡ false → first p n ≡ n
   first-clear n e = sym (first-none n n (record { in-range = omega arith; clear = e }) (omega arith))
 
+  -- the search ends at the count at the latest
+  pub first-within : (n : ℕ) → first p n ≤ n
+  first-within n = go (any p n) refl
+    where
+      go : (b : Bool) → any p n ≡ b → first p n ≤ n
+      go true e = let w = lowest n e in omega (arith, first-lowest n (w .0) (w .1), w .1 .below)
+      go false e = omega (arith, first-clear n e)
+
   -- the search ends before the count only where some row has it
   pub first-below : (n : ℕ) → first p n < n → any p n ≡ true
   first-below n l = go (any p n) refl

@@ -5,7 +5,7 @@ use cases::room;
 use cases::stream::Reader;
 use cases::tables;
 use cases::tables::Lengths;
-use cases::tables::part;
+use cells::parts::part;
 
 // The line of a program that was read; false where it could not be written. A refused reader has none.
 fn judged(l: Lengths, room: &[i32]) -> bool {

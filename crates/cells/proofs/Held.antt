@@ -8,6 +8,7 @@ use lib.ListN.{length, take, drop, length-drop, drop-of-length-le}
 use lib.Seq.{take-all}
 
 module _ {A : Type 0} where
+  -- what follows a place, cut to what there is
   drop-least : (at : ℕ) (l : List A) → drop (min at (length l)) l ≡ drop at l
   drop-least at l = go (decLe at (length l))
     where
@@ -16,13 +17,15 @@ module _ {A : Type 0} where
       go (no h) =
           drop-of-length-le l {i = min at (length l)} (omega arith) ∙ sym (drop-of-length-le l {i = at} (omega arith))
 
-  take-least : (n : ℕ) (l : List A) → take (min n (length l)) l ≡ take n l
+  -- so many from the beginning, cut to what there is
+  pub take-least : (n : ℕ) (l : List A) → take (min n (length l)) l ≡ take n l
   take-least n l = go (decLe n (length l))
     where
       go : Dec (n ≤ length l) → take (min n (length l)) l ≡ take n l
       go (yes h) = let e : min n (length l) ≡ n = omega arith in ap (λ (k : ℕ). take k l) e
       go (no h) = take-all (min n (length l)) l (omega arith) ∙ sym (take-all n l (omega arith))
 
+  -- the part between
   pub part-is : (at n from k : ℕ) (l : List A) → from ≡ min at (length l) → k ≡ min n (length l - from)
       → take (from + k - from) (drop from l) ≡ take n (drop at l)
   part-is at n from k l e f =

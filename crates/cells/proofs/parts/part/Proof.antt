@@ -1,8 +1,8 @@
--- `cases::tables::part` meets its contract: a part that is cut to what there is. Assumes nothing.
-use Rattle.cases.proofs.Held.{part-is}
+-- `cells::parts::part` meets its contract: a part that is cut to what there is. Assumes nothing.
+use Rattle.cells.proofs.Held.{part-is}
 use borrow.Author.Needs.{needs}
-use Rattle.cases.proofs.tables.part.Statement.{statement}
-use Rattle.cases.proofs.tables.part.Tie as tie
+use Rattle.cells.proofs.parts.part.Statement.{statement}
+use Rattle.cells.proofs.parts.part.Tie as tie
 
 least-requires : tie.Need-least-requires
 least-requires c κs = search needs

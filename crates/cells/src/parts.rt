@@ -1,0 +1,23 @@
+// A part of a slice, cut to what there is.
+ghost use Prim.Native.Nat.{min};
+ghost use mathlib.Core.Path.{_≡_};
+ghost use lib.ListN.{take, drop};
+
+// The smaller of two.
+pub fn least(a: usize, b: usize) -> usize
+    ensures { λ r. ⌜ r ≡ min a b ⌝ }
+{
+    if a < b {
+        return a;
+    }
+    b
+}
+
+// The n numbers from a place on, as many as there are.
+pub fn part(room: &[i32], at: usize, n: usize) -> &[i32]
+    ensures { λ r. ⌜ now r ≡ take n (drop at (now (room .entry))) ⌝ }
+{
+    let from = least(at, room.len());
+    let end = from + least(n, room.len() - from);
+    &room[from..end]
+}

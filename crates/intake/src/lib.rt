@@ -1,0 +1,5 @@
+// What the shipped program reads: a text of numbers, a byte at a time, into one lent room.
+pub mod bytes;
+pub mod lines;
+pub mod shape;
+pub mod state;

@@ -1,0 +1,77 @@
+// The ten tables in the order in which a text has them: how many numbers a row has, most rows, and the room for all.
+ghost use mathlib.Core.Path.{_≡_};
+ghost use Rattle.intake.specs.Shapes.{shapeAt};
+use cells::columns::copy;
+use cells::columns::driver;
+use cells::columns::invocation;
+use cells::columns::mode;
+use cells::columns::mode_port;
+use cells::columns::port;
+use cells::columns::switch;
+use cells::columns::task;
+use cells::columns::task_port;
+use cells::columns::update;
+use cells::limits::Program;
+
+// So many tables.
+pub const TABLES: usize = 10;
+
+// How many numbers a row of each has.
+pub const WIDTHS: [usize; TABLES] = [
+    port::WIDTH,
+    task::WIDTH,
+    task_port::WIDTH,
+    driver::WIDTH,
+    copy::WIDTH,
+    mode::WIDTH,
+    mode_port::WIDTH,
+    invocation::WIDTH,
+    update::WIDTH,
+    switch::WIDTH,
+];
+
+// Most rows of each.
+pub const LIMITS: [usize; TABLES] = [
+    Program::PORTS,
+    Program::TASKS,
+    Program::TASK_PORTS,
+    Program::DRIVERS,
+    Program::COPIES,
+    Program::MODES,
+    Program::MODE_PORTS,
+    Program::INVOCATIONS,
+    Program::UPDATES,
+    Program::SWITCHES,
+];
+
+// The numbers of all ten, each with its most rows: a room of so many never is too short.
+pub const ROOM: usize = Program::PORTS * port::WIDTH
+    + Program::TASKS * task::WIDTH
+    + Program::TASK_PORTS * task_port::WIDTH
+    + Program::DRIVERS * driver::WIDTH
+    + Program::COPIES * copy::WIDTH
+    + Program::MODES * mode::WIDTH
+    + Program::MODE_PORTS * mode_port::WIDTH
+    + Program::INVOCATIONS * invocation::WIDTH
+    + Program::UPDATES * update::WIDTH
+    + Program::SWITCHES * switch::WIDTH;
+
+// The width of a table; past the last table 0.
+pub fn width(table: usize) -> usize
+    ensures { λ r. ⌜ r ≡ shapeAt table .width ⌝ }
+{
+    if table < TABLES {
+        return WIDTHS[table];
+    }
+    0
+}
+
+// The most rows of a table; past the last table 0.
+pub fn limit(table: usize) -> usize
+    ensures { λ r. ⌜ r ≡ shapeAt table .limit ⌝ }
+{
+    if table < TABLES {
+        return LIMITS[table];
+    }
+    0
+}

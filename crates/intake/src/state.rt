@@ -1,0 +1,78 @@
+// What is known of a text after some of its bytes; the numbers of its tables lie in a lent room, one after the other.
+ghost use mathlib.Core.Path.{_≡_};
+ghost use Rattle.intake.specs.Change.{startIntake, asBad, asTooMany};
+ghost use Rattle.intake.specs.Line.{isDecided, isComplete};
+use crate::shape::TABLES;
+use text::number::Part;
+
+// The text so far.
+pub struct Intake {
+    // Of the line that is being read.
+    pub part: Part,
+    // The text is bad, or a count was out of its limit: either decides.
+    pub bad: bool,
+    pub too_many: bool,
+    // The start mode was read.
+    pub started: bool,
+    pub start: i32,
+    // Of so many tables the count was read, and so many numbers of the latest are still to come.
+    pub table: usize,
+    pub left: usize,
+    // The next free place of the room.
+    pub at: usize,
+    // Where each table begins in the room, and how many numbers it has.
+    pub begins: [usize; TABLES],
+    pub lens: [usize; TABLES],
+}
+
+impl Intake {
+    // Nothing was read yet.
+    pub fn new() -> Intake
+        ensures { λ r. ⌜ r ≡ startIntake ⌝ }
+    {
+        Intake {
+            part: Part::new(),
+            bad: false,
+            too_many: false,
+            started: false,
+            start: 0,
+            table: 0,
+            left: 0,
+            at: 0,
+            begins: [0; TABLES],
+            lens: [0; TABLES],
+        }
+    }
+
+    // The text is decided: more bytes change nothing, so a caller may stop reading.
+    pub fn decided(self) -> bool
+        ensures { λ r. ⌜ r ≡ isDecided self ⌝ }
+    {
+        self.bad | self.too_many
+    }
+
+    // The last row was read, and nothing after it.
+    pub fn complete(self) -> bool
+        ensures { λ r. ⌜ r ≡ isComplete self ⌝ }
+    {
+        !self.bad & !self.too_many & self.started & (self.table == TABLES) & (self.left == 0)
+    }
+
+    // The text is bad.
+    pub fn as_bad(self) -> Intake
+        ensures { λ r. ⌜ r ≡ asBad self ⌝ }
+    {
+        let mut next = self;
+        next.bad = true;
+        next
+    }
+
+    // A count is out of its limit.
+    pub fn as_too_many(self) -> Intake
+        ensures { λ r. ⌜ r ≡ asTooMany self ⌝ }
+    {
+        let mut next = self;
+        next.too_many = true;
+        next
+    }
+}

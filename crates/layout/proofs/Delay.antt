@@ -1,0 +1,94 @@
+-- What the table of delays says: at every address the delay of the `future` there, and 0 where none stands. The delays of an accepted
+-- program are from 1 to the limit, so 0 says that none stands there; and each is one unit's ticks of a declared mode.
+-- Assumes that the code has no more than the most instructions; of the delays, that the program is accepted.
+use Prim.Native.Nat.{ℕ, zero, suc, _+_, _/_, _≤_, _<_}
+use mathlib.Core.Path.{_≡_, refl, sym, ap, _∙_}
+use mathlib.Core.List.{List, [], _∷_}
+use mathlib.Core.Logic.{_↔_}
+use mathlib.Core.Option.{Option, none, some}
+use native.Mathlib.Nat.{add-zero, zero-add, div-le-self}
+use native.Mathlib.Omega.{arith}
+use lib.ListN.{length, getD, replicate, length-set, length-replicate}
+use lib.Seq.{getD-set-same, getD-set-other}
+use Rattle.theory.proofs.Filled.{zeros-at}
+use Rattle.cells.specs.Cell.{wordAt}
+use Rattle.cells.specs.Limits.{maxCode, maxDelay}
+use Rattle.program.specs.Tables.{Tables, modeCount, modePeriod}
+use Rattle.program.specs.Units.{units}
+use Rattle.program.specs.Program.{programOf, ticksOf}
+use Rattle.program.proofs.Decoded.{mode-count, mode-row}
+use Rattle.rules.specs.Verdict.{programVerdict}
+use Rattle.rules.proofs.Timing.{ticks-some}
+use Rattle.rules.proofs.Accepted.{accepted-fields, accepted-units-fit}
+use Rattle.code.specs.Op.{Op}
+use Rattle.code.specs.Compile.{listingOf, futureDelay, delayAt}
+use Rattle.code.proofs.Futures.{FutureOf, future-of}
+use Rattle.layout.specs.Delays.{delayNumber, mark, marked}
+
+-- a mark stands at its address
+mark-here : (d : Option ℕ) (a : ℕ) (table : List ℕ) → a < length table → getD table a 0 ≡ 0 → getD (mark d a table) a 0 ≡ delayNumber d
+mark-here none a table l z = z
+mark-here (some d) a table l z = getD-set-same table a d 0 l
+
+-- it changes no other place
+mark-other : (d : Option ℕ) (a : ℕ) (table : List ℕ) (i : ℕ) → (i ≡ a → ⊥) → getD (mark d a table) i 0 ≡ getD table i 0
+mark-other none a table i h = refl
+mark-other (some d) a table i h = getD-set-other table a i d 0 h
+
+-- nor the length
+mark-length : (d : Option ℕ) (a : ℕ) (table : List ℕ) → length (mark d a table) ≡ length table
+mark-length none a table = refl
+mark-length (some d) a table = length-set table a d
+
+-- instructions from address a on mark nothing before it
+marked-before : (os : List Op) (a : ℕ) (table : List ℕ) (i : ℕ) → i < a → getD (marked os a table) i 0 ≡ getD table i 0
+marked-before [] a table i h = refl
+marked-before (o ∷ os) a table i h =
+    marked-before os (suc a) (mark (futureDelay o) a table) i (omega arith) ∙ mark-other (futureDelay o) a table i (λ e. omega arith)
+
+-- and from there on the delay of each `future`, where the table was 0
+marked-at : (os : List Op) (a : ℕ) (table : List ℕ) → a + length os ≤ length table → ((i : ℕ) → a ≤ i → getD table i 0 ≡ 0)
+    → (i : ℕ) → getD (marked os a table) (a + i) 0 ≡ delayNumber (delayAt os i)
+marked-at [] a table l z i = z (a + i) (omega arith)
+marked-at (o ∷ os) a table l z zero =
+    ap (λ (n : ℕ). getD (marked os (suc a) (mark (futureDelay o) a table)) n 0) (add-zero a)
+    ∙ marked-before os (suc a) (mark (futureDelay o) a table) a (omega arith)
+    ∙ mark-here (futureDelay o) a table (omega arith) (z a (omega arith))
+marked-at (o ∷ os) a table l z (suc i) =
+    let e : a + suc i ≡ suc a + i = omega arith in
+    ap (λ (n : ℕ). getD (marked os (suc a) (mark (futureDelay o) a table)) n 0) e
+    ∙ marked-at os (suc a) (mark (futureDelay o) a table) (omega (arith, mark-length (futureDelay o) a table))
+    (λ j h. mark-other (futureDelay o) a table j (λ q. omega arith) ∙ z j (omega arith)) i
+
+-- the table that was all 0 has at every address the delay of the `future` there, and 0 where none stands
+pub table-exact : (os : List Op) → length os ≤ maxCode → (a : ℕ) → wordAt (marked os 0 (replicate maxCode 0)) a ≡ delayNumber (delayAt os a)
+unfolding wordAt
+table-exact os l a =
+    ap (λ (n : ℕ). getD (marked os 0 (replicate maxCode 0)) n 0) (sym (zero-add a))
+    ∙ marked-at os 0 (replicate maxCode 0) (omega (arith, length-replicate {A = ℕ} maxCode 0)) (λ i h. zeros-at maxCode i) a
+
+-- each `future` of a program's listing is that of a unit of a declared mode, and waits that unit's ticks
+pub delay-of : (T : Tables) (a d : ℕ) → delayAt (listingOf T) a ≡ some d → FutureOf (programOf T) a d
+unfolding listingOf
+delay-of T a d e = future-of (programOf T) a d e
+
+module _ (T : Tables) (v : programVerdict T ≡ 0) where
+  -- every delay is at least 1 and at most the limit
+  pub delay-in-range : (a d : ℕ) → delayAt (listingOf T) a ≡ some d → (1 ≤ d) × (d ≤ maxDelay)
+  delay-in-range a d e =
+      let w = delay-of T a d e in
+      let own : w .own < modeCount T = omega (arith, w .declared, mode-count T) in
+      let f = accepted-fields T v in
+      let q : d ≡ modePeriod T (w .own) / units T (w .own) = w .delay ∙ ap ticksOf (mode-row T (w .own) own) in (
+        omega (arith, ticks-some T f (accepted-units-fit T v) (w .own) own),
+        omega (arith, div-le-self (modePeriod T (w .own)) (units T (w .own)), f .modes (w .own) own .1),
+      )
+
+  -- so where the table says 0, no `future` stands
+  pub zero-none : length (listingOf T) ≤ maxCode → (a : ℕ)
+      → (wordAt (marked (listingOf T) 0 (replicate maxCode 0)) a ≡ 0) ↔ (delayAt (listingOf T) a ≡ none)
+  zero-none l a = (λ z. go (delayAt (listingOf T) a) refl (sym (table-exact (listingOf T) l a) ∙ z), λ e. table-exact (listingOf T) l a ∙ ap delayNumber e)
+    where
+      go : (o : Option ℕ) → delayAt (listingOf T) a ≡ o → delayNumber o ≡ 0 → o ≡ none
+      go none e z = refl
+      go (some d) e z = absurd (omega (arith, delay-in-range a d e .0))

@@ -1,0 +1,22 @@
+-- Tables and counts within document 01's limits, so that no sum of a listing's sizes wraps.
+-- Assumes nothing.
+use Prim.Native.Nat.{_≤_}
+use mathlib.Core.List.{List}
+use lib.IntN.{ℤ}
+use Rattle.cells.specs.Cell.{rowsIn}
+use Rattle.cells.specs.Limits.{maxPorts, maxInvocations, maxUpdates, maxSwitches}
+use Rattle.program.specs.Tables.{invocationWidth, updateWidth, switchWidth}
+use Rattle.layout.specs.declared.counts.Counts.{Counts}
+
+-- invocations, updates and switches have no more rows than document 01 allows
+pub record Few (lent-invocations lent-updates lent-switches : List ℤ) : Type 0 where
+  pub invocations : rowsIn invocationWidth lent-invocations ≤ maxInvocations
+  pub updates : rowsIn updateWidth lent-updates ≤ maxUpdates
+  pub switches : rowsIn switchWidth lent-switches ≤ maxSwitches
+
+-- a unit has no more due rows, and a program no more sensors
+pub record Sized (c : Counts) : Type 0 where
+  pub invocations : c .invocations ≤ maxInvocations
+  pub updates : c .updates ≤ maxUpdates
+  pub switches : c .switches ≤ maxSwitches
+  pub sensors : c .sensors ≤ maxPorts

@@ -1,0 +1,43 @@
+-- Where the modes of a listing stand: one mode more, counted from the tables; and what a layout of all says of the listing.
+-- Assumes nothing.
+use Prim.Native.Nat.{ℕ, _+_, _≤_, _<_}
+use mathlib.Core.Path.{_≡_}
+use lib.ListN.{length, getD, set}
+use Rattle.theory.specs.Lists.{sum}
+use Rattle.program.specs.Tables.{Tables, modeCount}
+use Rattle.program.specs.Units.{units}
+use Rattle.program.specs.Program.{programOf}
+use Rattle.code.specs.Listing.{blockAddress, entryAddress}
+use Rattle.code.specs.Compile.{listingOf}
+use Rattle.layout.specs.declared.counts.Counts.{Counts}
+use Rattle.layout.specs.declared.addresses.Layout.{Layout}
+use Rattle.layout.specs.Counts.{countsIn, beforeEntry, sizeOf, mostCode}
+
+-- what is due at unit k of mode m of these tables
+abbrev pub unitCounts : Tables → ℕ → ℕ → ℕ → Counts
+unitCounts T sensors m k = countsIn (T .invocations) (T .updates) (T .switches) sensors m (units T m) k
+
+-- how long the mode is
+abbrev pub sizeIn : Tables → ℕ → ℕ → ℕ
+sizeIn T sensors m = sum (λ k. sizeOf (unitCounts T sensors m k)) (units T m)
+
+-- mode m begins where the modes before it end
+unfoldable pub laidMore : Tables → ℕ → ℕ → Layout → Layout
+laidMore T sensors m before =
+    record {
+      starts = set (before .starts) m (before .length);
+      entries = set (before .entries) m (before .length + beforeEntry (unitCounts T sensors m 0));
+      length = before .length + sizeIn T sensors m;
+    }
+
+-- the layout says where each declared mode of these tables begins, where its unit 0 is entered, and how long the listing is
+pub record LaidOut (T : Tables) (l : Layout) : Type 0 where
+  pub starts : (m : ℕ) → m < modeCount T → getD (l .starts) m 0 ≡ blockAddress (programOf T) m 0
+  pub entries : (m : ℕ) → m < modeCount T → getD (l .entries) m 0 ≡ entryAddress (programOf T) m 0
+  pub length : l .length ≡ length (listingOf T)
+
+-- none of its numbers exceeds the longest code, so that each fits a word
+pub record Small (l : Layout) : Type 0 where
+  pub starts : (m : ℕ) → getD (l .starts) m 0 ≤ mostCode
+  pub entries : (m : ℕ) → getD (l .entries) m 0 ≤ mostCode
+  pub length : l .length ≤ mostCode

@@ -1,0 +1,81 @@
+// Where each mode of the listing begins and is entered, and how long the listing is: one walk over the modes.
+ghost use mathlib.Core.Path.{_≡_};
+ghost use Prim.Native.Nat.{_≤_, _<_};
+ghost use lib.ListN.{length};
+ghost use Rattle.cells.specs.Cell.{rowsIn};
+ghost use Rattle.cells.specs.Limits.{maxPorts, maxModes};
+ghost use Rattle.program.specs.Tables.{Tables, modeWidth};
+ghost use Rattle.program.specs.Program.{programOf};
+ghost use Rattle.layout.specs.Counts.{mostCode};
+ghost use Rattle.layout.specs.Few.{Few};
+ghost use Rattle.layout.specs.Layout.{laidMore, LaidOut, Small};
+use crate::counts;
+use cells::columns::mode;
+use cells::kinds::Mode;
+use cells::limits::Program;
+use program::multiples;
+
+// Where the first block of each mode begins, where its unit 0 is entered, how many instructions there are.
+pub struct Layout {
+    pub starts: [usize; Program::MODES],
+    pub entries: [usize; Program::MODES],
+    pub length: usize,
+}
+
+// Where mode m begins, is entered and ends: it begins where the modes before it end.
+fn one_more(
+    before: Layout,
+    invocations: &[i32],
+    updates: &[i32],
+    switches: &[i32],
+    sensors: usize,
+    m: usize,
+) -> Layout
+    requires { ⌜ Few (now invocations) (now updates) (now switches) ⌝ }
+    requires { ⌜ sensors ≤ maxPorts ⌝ }
+    requires { ⌜ m < maxModes ⌝ }
+    requires { ⌜ before .length ≤ mostCode ⌝ }
+    ensures { λ r. ⌜ ((T : Tables) → T .invocations ≡ now (invocations .entry) → T .updates ≡ now (updates .entry) → T .switches ≡ now (switches .entry) → r ≡ laidMore T sensors m before) ⌝ }
+{
+    let own = Mode::of(m);
+    let u = multiples::units(invocations, updates, switches, own);
+    let first = counts::count(invocations, updates, switches, sensors, own, u, 0);
+    let begin = before.length;
+    let entry = begin + counts::before_entry(first);
+    let end = begin + counts::mode_size(invocations, updates, switches, sensors, own, u);
+    let mut next = before;
+    next.starts[m] = begin;
+    next.entries[m] = entry;
+    next.length = end;
+    next
+}
+
+// The layout of all modes, one after the other, behind the jump at address 0.
+pub fn lay_out(
+    modes: &[i32],
+    invocations: &[i32],
+    updates: &[i32],
+    switches: &[i32],
+    sensors: usize,
+) -> Layout
+    requires { ⌜ Few (now invocations) (now updates) (now switches) ⌝ }
+    requires { ⌜ rowsIn modeWidth (now modes) ≤ maxModes ⌝ }
+    requires { ⌜ sensors ≤ maxPorts ⌝ }
+    ensures laid { λ r. ⌜ ((T : Tables) → T .modes ≡ now (modes .entry) → T .invocations ≡ now (invocations .entry) → T .updates ≡ now (updates .entry) → T .switches ≡ now (switches .entry) → sensors ≡ length (programOf T .sensors) → LaidOut T r) ⌝ }
+    ensures small { λ r. ⌜ Small r ⌝ }
+{
+    let n = modes.len() / mode::WIDTH;
+    let none = [0; Program::MODES];
+    let mut at = Layout {
+        starts: none,
+        entries: none,
+        length: 1,
+    };
+    let mut m = 0;
+    while m < n {
+        let next = one_more(at, invocations, updates, switches, sensors, m);
+        at = next;
+        m += 1;
+    }
+    at
+}

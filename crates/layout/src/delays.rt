@@ -1,0 +1,149 @@
+// The delay of the `future` at each address of the compiled code, as a table that is filled from the program's tables.
+ghost use mathlib.Core.Path.{_≡_};
+ghost use Prim.Native.Nat.{suc, _+_, _≤_, _<_};
+ghost use lib.ListN.{set};
+ghost use Rattle.theory.specs.Lists.{sum};
+ghost use Rattle.cells.specs.Cell.{rowsIn, wordAt, greatestWord};
+ghost use Rattle.cells.specs.Limits.{maxPorts, maxModes, maxUnits};
+ghost use Rattle.program.specs.Tables.{Tables, portWidth, modeWidth};
+ghost use Rattle.program.specs.Units.{units};
+ghost use Rattle.rules.specs.Verdict.{programVerdict};
+ghost use Rattle.code.specs.Compile.{listingOf};
+ghost use Rattle.layout.specs.Counts.{countsIn, beforeFuture, sizeOf, mostMode, mostCode};
+ghost use Rattle.layout.specs.Few.{Few, Sized};
+ghost use Rattle.layout.specs.Layout.{unitCounts, sizeIn};
+ghost use Rattle.layout.specs.Delays.{marked, unitsMarked, heldPeriod, ticksIn};
+use crate::counts;
+use crate::counts::Counts;
+use cells::columns::mode;
+use cells::kinds::Mode;
+use cells::limits::Program;
+use cells::table;
+use program::multiples;
+
+// A period, held at the limit, so that a unit's ticks fit a word whatever the tables say.
+fn held(period: usize) -> usize
+    ensures { λ r. ⌜ r ≡ heldPeriod period ⌝ }
+{
+    if period <= Program::PERIOD {
+        return period;
+    }
+    Program::PERIOD
+}
+
+// The ticks put at the `future` of a block that begins at this address. Where the block ends.
+fn mark_block(c: Counts, ticks: usize, at: usize, delays: &mut [u32]) -> usize
+    requires { ⌜ Sized c ⌝ }
+    requires { ⌜ ticks ≤ greatestWord ⌝ }
+    requires { ⌜ at ≤ mostCode ⌝ }
+    ensures marks { λ _. ⌜ now (delays .exit) ≡ set (now (delays .entry)) (at + beforeFuture c) ticks ⌝ }
+    ensures end { λ r. ⌜ r ≡ at + sizeOf c ⌝ }
+{
+    table::put(delays, at + counts::before_future(c), ticks);
+    at + counts::block_size(c)
+}
+
+// The ticks put at the `future` of each of the u units of mode m, which begins at this address. Where the mode ends.
+fn mark_units(
+    invocations: &[i32],
+    updates: &[i32],
+    switches: &[i32],
+    sensors: usize,
+    m: Mode,
+    u: usize,
+    ticks: usize,
+    at: usize,
+    delays: &mut [u32],
+) -> usize
+    requires { ⌜ Few (now invocations) (now updates) (now switches) ⌝ }
+    requires { ⌜ sensors ≤ maxPorts ⌝ }
+    requires { ⌜ u ≤ suc maxUnits ⌝ }
+    requires { ⌜ ticks ≤ greatestWord ⌝ }
+    requires { ⌜ at + mostMode ≤ mostCode ⌝ }
+    ensures marks { λ _. ⌜ now (delays .exit) ≡ unitsMarked (countsIn (now (invocations .entry)) (now (updates .entry)) (now (switches .entry)) sensors (m .0) u) ticks at u (now (delays .entry)) ⌝ }
+    ensures end { λ r. ⌜ r ≡ at + sum (λ k. sizeOf (countsIn (now (invocations .entry)) (now (updates .entry)) (now (switches .entry)) sensors (m .0) u k)) u ⌝ }
+{
+    let mut next = at;
+    let mut k = 0;
+    while k < u {
+        let c = counts::count(invocations, updates, switches, sensors, m, u, k);
+        next = mark_block(c, ticks, next, delays);
+        k += 1;
+    }
+    next
+}
+
+// The same for mode m of the tables, with its units and its period. Where the mode ends.
+fn mark_mode(
+    modes: &[i32],
+    invocations: &[i32],
+    updates: &[i32],
+    switches: &[i32],
+    sensors: usize,
+    m: usize,
+    at: usize,
+    delays: &mut [u32],
+) -> usize
+    requires { ⌜ Few (now invocations) (now updates) (now switches) ⌝ }
+    requires { ⌜ sensors ≤ maxPorts ⌝ }
+    requires { ⌜ m < maxModes ⌝ }
+    requires { ⌜ at + mostMode ≤ mostCode ⌝ }
+    ensures marks { λ _. ⌜ ((T : Tables) → T .modes ≡ now (modes .entry) → T .invocations ≡ now (invocations .entry) → T .updates ≡ now (updates .entry) → T .switches ≡ now (switches .entry) → now (delays .exit) ≡ unitsMarked (unitCounts T sensors m) (ticksIn T m) at (units T m) (now (delays .entry))) ⌝ }
+    ensures end { λ r. ⌜ ((T : Tables) → T .invocations ≡ now (invocations .entry) → T .updates ≡ now (updates .entry) → T .switches ≡ now (switches .entry) → r ≡ at + sizeIn T sensors m) ⌝ }
+{
+    let own = Mode::of(m);
+    let u = multiples::units(invocations, updates, switches, own);
+    let period = held(table::field(modes, mode::WIDTH, m, mode::PERIOD));
+    let ticks = period / u;
+    mark_units(
+        invocations,
+        updates,
+        switches,
+        sensors,
+        own,
+        u,
+        ticks,
+        at,
+        delays,
+    )
+}
+
+// The delay of each `future` of the compiled code put at its address; the other places stay as they are.
+pub fn fill(
+    ports: &[i32],
+    modes: &[i32],
+    invocations: &[i32],
+    updates: &[i32],
+    switches: &[i32],
+    delays: &mut [u32],
+)
+    requires { ⌜ Few (now invocations) (now updates) (now switches) ⌝ }
+    requires { ⌜ rowsIn modeWidth (now modes) ≤ maxModes ⌝ }
+    requires { ⌜ rowsIn portWidth (now ports) ≤ maxPorts ⌝ }
+    ensures { λ _. ⌜ ((T : Tables) → T .ports ≡ now (ports .entry) → T .modes ≡ now (modes .entry) → T .invocations ≡ now (invocations .entry) → T .updates ≡ now (updates .entry) → T .switches ≡ now (switches .entry) → programVerdict T ≡ 0 → now (delays .exit) ≡ marked (listingOf T) 0 (now (delays .entry))) ⌝ }
+{
+    let sensors = counts::sensors(ports);
+    let n = modes.len() / mode::WIDTH;
+    let mut at = 1;
+    let mut m = 0;
+    while m < n {
+        at = mark_mode(
+            modes,
+            invocations,
+            updates,
+            switches,
+            sensors,
+            m,
+            at,
+            delays,
+        );
+        m += 1;
+    }
+}
+
+// The delay of the `future` at an address, 0 where none stands.
+pub fn delay(delays: &[u32], address: usize) -> usize
+    ensures { λ r. ⌜ r ≡ wordAt (now (delays .entry)) address ⌝ }
+{
+    table::word(delays, address)
+}

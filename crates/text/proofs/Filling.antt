@@ -1,0 +1,89 @@
+-- A page that is filled line by line: what stands on it, and when it has a line at least.
+-- Assumes nothing.
+use Prim.Native.Nat.{ℕ, _+_, _-_, _≤_, _<_}
+use mathlib.Core.Path.{_≡_, sym, ap, _∙_}
+use mathlib.Core.List.{List, [], _++_}
+use native.Mathlib.Decide.{decLt}
+use native.Mathlib.Numerals.{add-one}
+use native.Mathlib.Omega.{arith}
+use lib.ListN.{length, getD, take, drop, length-append, length-drop}
+use lib.Seq.{slice-empty, take-at, drop-append-add, drop-drop}
+use Rattle.code.specs.Op.{Op, faulty}
+use Rattle.text.specs.Listing.{lineOf, linesFrom}
+use Rattle.text.specs.Line.{room, textOf, Holds}
+use Rattle.text.specs.Page.{Laid, linesOf, Written}
+use Rattle.text.specs.declared.line.Line.{Line}
+use Rattle.text.proofs.Pages.{lines-more, pages-join}
+
+-- no line
+lines-none : (os : List Op) (from : ℕ) → linesOf os from from ≡ []
+lines-none os from = ap (linesFrom from) (slice-empty from os)
+
+-- an empty page
+pub written-none : (os : List Op) (from : ℕ) (before : List ℕ) → Written os from before before from 0
+written-none os from before =
+    record {
+      onward = omega arith;
+      inside = omega arith;
+      within = omega arith;
+      size = sym (ap length (lines-none os from));
+      text = sym (ap (λ (l : List ℕ). l ++ before) (lines-none os from));
+    }
+
+module _ (os : List Op) (from : ℕ) (before after : List ℕ) (next len : ℕ) (w : Written os from before after next len) where
+  -- the slice is as long as before
+  pub written-same : length after ≡ length before
+  written-same =
+      omega (arith, ap length (w .text), length-append (linesOf os from next) (drop len before), length-drop len before, w .size, w .within)
+
+  -- what stands there
+  pub written-text : take len after ≡ linesOf os from next
+  written-text = ap (take len) (w .text) ∙ take-at (linesOf os from next) (drop len before) len (sym (w .size))
+
+  -- what stands behind a place behind it
+  behind : (k : ℕ) → drop (len + k) after ≡ drop (len + k) before
+  behind k =
+      ap (drop (len + k)) (w .text)
+      ∙ ap (λ (n : ℕ). drop (n + k) (linesOf os from next ++ drop len before)) (w .size)
+      ∙ drop-append-add (linesOf os from next) (drop len before) k
+      ∙ drop-drop k len before
+
+  -- one line more
+  pub written-more : (l : Line) (out : List ℕ) (end : ℕ) → next < length os → end ≤ length before
+      → Holds l (lineOf next (getD os next faulty)) → Laid after out len l end → Written os from before out (next + 1) end
+  written-more l out end h fits said laid =
+      let o = getD os next faulty in
+      let more : linesOf os from (next + 1) ≡ linesOf os from next ++ lineOf next o = rw add-one (lines-more os from next (w .onward) h) in
+      record {
+        onward = omega (arith, w .onward);
+        inside = omega arith;
+        within = fits;
+        size = omega (arith, laid .end, said .len, w .size, ap length more, length-append (linesOf os from next) (lineOf next o));
+        text =
+            laid .text
+            ∙ ap (λ (t : List ℕ). t ++ textOf l ++ drop end after) written-text
+            ∙ ap (λ (t : List ℕ). linesOf os from next ++ t ++ drop end after) (said .text)
+            ∙ ap (λ (t : List ℕ). t ++ drop end after) (sym more)
+            ∙ ap (λ (t : List ℕ). linesOf os from (next + 1) ++ t) (ap (λ (n : ℕ). drop n after) (laid .end) ∙ behind (l .len) ∙ ap (λ (n : ℕ). drop n before) (sym (laid .end)));
+      }
+
+  -- after the pages before it, it goes on with the listing
+  pub written-joins : (shown : List ℕ) → from ≤ length os → shown ≡ linesOf os 0 from → shown ++ take len after ≡ linesOf os 0 next
+  written-joins shown h e =
+      (λ j. e j ++ written-text j) ∙ pages-join os 0 from next (omega arith) (w .onward) (omega (arith, w .inside))
+
+  -- no line was written where it ends with the first
+  written-start : next ≡ from → len ≡ 0
+  written-start e = w .size ∙ ap length (ap (linesOf os from) e ∙ lines-none os from)
+
+  -- it ended for want of room, and there was room for a line
+  pub written-some : length after - len < room → room ≤ length before → from < next
+  written-some h r = go (decLt from next)
+    where
+      go : Dec (from < next) → from < next
+      go (yes l) = l
+      go (no l) = let e : next ≡ from = omega (arith, w .onward) in absurd (omega (arith, written-start e, written-same))
+
+  -- past the last instruction nothing is written
+  pub written-past : length os ≤ from → (next ≡ from) × (len ≡ 0)
+  written-past h = let e : next ≡ from = omega (arith, w .onward, w .inside) in (e, written-start e)

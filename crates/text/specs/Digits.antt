@@ -1,0 +1,22 @@
+-- The digits of a number as the code holds them: at the end of a room for the most of them.
+-- Assumes nothing.
+use Prim.Native.Nat.{ℕ, _≤_}
+use mathlib.Core.Path.{_≡_}
+use mathlib.Core.List.{List}
+use lib.ListN.{length, drop}
+use Rattle.text.specs.Decimal.{decimal}
+use Rattle.text.specs.declared.decimal.Digits.{Digits}
+
+-- no number of 32 bits has more digits
+abbrev pub mostDigits : ℕ
+mostDigits = 10
+
+-- those that are written
+unfoldable pub digitsIn : Digits → List ℕ
+digitsIn d = drop (d .from) (d .bytes)
+
+-- these are the digits of n
+pub record Spelled (n : ℕ) (d : Digits) : Type 0 where
+  pub digits : digitsIn d ≡ decimal n
+  pub within : d .from ≤ mostDigits
+  pub whole : length (d .bytes) ≡ mostDigits

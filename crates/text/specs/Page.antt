@@ -1,0 +1,34 @@
+-- The listing page by page: what stands in the lent slice, and that there is a line at least where there is room for one.
+-- Assumes nothing.
+use Prim.Native.Nat.{ℕ, _+_, _≤_, _<_, max}
+use mathlib.Core.Path.{_≡_}
+use mathlib.Core.List.{List, _++_}
+use lib.ListN.{length, take, drop}
+use lib.Seq.{slice}
+use Rattle.code.specs.Op.{Op}
+use Rattle.text.specs.Listing.{linesFrom}
+use Rattle.text.specs.Line.{room, textOf}
+use Rattle.text.specs.declared.line.Line.{Line}
+use Rattle.text.specs.declared.page.Page.{Page}
+
+-- a line laid at a place, and the place behind it; the rest is as it was
+pub record Laid (before after : List ℕ) (at : ℕ) (l : Line) (behind : ℕ) : Type 0 where
+  pub end : behind ≡ at + l .len
+  pub text : after ≡ take at before ++ textOf l ++ drop behind before
+
+-- the lines of the instructions from one number up to another
+abbrev pub linesOf : List Op → ℕ → ℕ → List ℕ
+linesOf os from next = linesFrom from (slice from next os)
+
+-- these lines stand at the start, the rest is as it was
+pub record Written (os : List Op) (from : ℕ) (before after : List ℕ) (next len : ℕ) : Type 0 where
+  pub onward : from ≤ next
+  pub inside : next ≤ max from (length os)
+  pub within : len ≤ length before
+  pub size : len ≡ length (linesOf os from next)
+  pub text : after ≡ linesOf os from next ++ drop len before
+
+-- a page from this instruction on; with one line at least, where there is an instruction and room for any line
+pub record Filled (os : List Op) (from : ℕ) (before after : List ℕ) (p : Page) : Type 0 where
+  pub written : Written os from before after (p .next) (p .len)
+  pub progress : from < length os → room ≤ length before → from < p .next

@@ -1,0 +1,74 @@
+// The printed listing: the line of an instruction, and the line of a verdict.
+ghost use Prim.Native.Nat.{_+_, _≤_};
+ghost use mathlib.Core.List.{[], _∷_, _++_};
+ghost use lib.ListN.{length};
+ghost use Rattle.code.specs.Op.{decode};
+ghost use Rattle.text.specs.Listing.{spaced, lineOf};
+ghost use Rattle.text.specs.Line.{room, Holds, Appended};
+ghost use Rattle.text.specs.Said.{mostMnemonic, mostSaid, saidOf, saidWhere};
+ghost use Rattle.text.specs.Shipped.{verdictLine};
+use crate::line::Line;
+
+// A mnemonic without arguments, where both words are 0.
+fn none(start: Line, mnemonic: &[u8], first: usize, second: usize) -> Line
+    requires { ⌜ length (now mnemonic) ≤ mostMnemonic ⌝ }
+    requires { ⌜ start .len + mostSaid ≤ room ⌝ }
+    ensures { λ r. ⌜ Appended start r (saidWhere (first + second) (now (mnemonic .entry))) ⌝ }
+{
+    if (first == 0) & (second == 0) {
+        return start.word(mnemonic);
+    }
+    start
+}
+
+// A mnemonic with one argument, where the unused word is 0.
+fn one(start: Line, mnemonic: &[u8], n: usize, unused: usize) -> Line
+    requires { ⌜ length (now mnemonic) ≤ mostMnemonic ⌝ }
+    requires { ⌜ start .len + mostSaid ≤ room ⌝ }
+    ensures { λ r. ⌜ Appended start r (saidWhere unused (now (mnemonic .entry) ++ spaced (n ∷ []))) ⌝ }
+{
+    if unused == 0 {
+        return start.word(mnemonic).argument(n);
+    }
+    start
+}
+
+// A mnemonic with two arguments.
+fn two(start: Line, mnemonic: &[u8], n: usize, m: usize) -> Line
+    requires { ⌜ length (now mnemonic) ≤ mostMnemonic ⌝ }
+    requires { ⌜ start .len + mostSaid ≤ room ⌝ }
+    ensures { λ r. ⌜ Appended start r (now (mnemonic .entry) ++ spaced (n ∷ m ∷ [])) ⌝ }
+{
+    start.word(mnemonic).argument(n).argument(m)
+}
+
+// The mnemonic and the arguments of the instruction that three words say; nothing where they say none.
+fn said(start: Line, number: usize, first: usize, second: usize) -> Line
+    requires { ⌜ start .len + mostSaid ≤ room ⌝ }
+    ensures { λ r. ⌜ Appended start r (saidOf (decode number first second)) ⌝ }
+{
+    match number {
+        0 => one(start, b"call", first, second),
+        1 => one(start, b"schedule", first, second),
+        2 => two(start, b"if", first, second),
+        3 => one(start, b"jump", first, second),
+        4 => two(start, b"future", first, second),
+        5 => none(start, b"return", first, second),
+        _ => start,
+    }
+}
+
+// The line of the instruction that three words say at an address.
+pub fn line(address: usize, number: usize, first: usize, second: usize) -> Line
+    ensures { λ r. ⌜ Holds r (lineOf address (decode number first second)) ⌝ }
+{
+    let start = Line::new().number(address).push(b' ');
+    said(start, number, first, second).push(b'\n')
+}
+
+// The line of a verdict.
+pub fn verdict_line(n: usize) -> Line
+    ensures { λ r. ⌜ Holds r (verdictLine n) ⌝ }
+{
+    Line::new().number(n).push(b'\n')
+}
