@@ -8,6 +8,7 @@ ghost use Rattle.text.specs.Line.{room, Holds, Appended};
 ghost use Rattle.text.specs.Said.{mostMnemonic, mostSaid, saidOf, saidWhere};
 ghost use Rattle.text.specs.Shipped.{verdictLine};
 use crate::line::Line;
+use code::numbers;
 
 // A mnemonic without arguments, where both words are 0.
 fn none(start: Line, mnemonic: &[u8], first: usize, second: usize) -> Line
@@ -48,12 +49,12 @@ fn said(start: Line, number: usize, first: usize, second: usize) -> Line
     ensures { λ r. ⌜ Appended start r (saidOf (decode number first second)) ⌝ }
 {
     match number {
-        0 => one(start, b"call", first, second),
-        1 => one(start, b"schedule", first, second),
-        2 => two(start, b"if", first, second),
-        3 => one(start, b"jump", first, second),
-        4 => two(start, b"future", first, second),
-        5 => none(start, b"return", first, second),
+        numbers::CALL => one(start, b"call", first, second),
+        numbers::SCHEDULE => one(start, b"schedule", first, second),
+        numbers::IF => two(start, b"if", first, second),
+        numbers::JUMP => one(start, b"jump", first, second),
+        numbers::FUTURE => two(start, b"future", first, second),
+        numbers::RETURN => none(start, b"return", first, second),
         _ => start,
     }
 }

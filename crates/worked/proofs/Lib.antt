@@ -2,3 +2,4 @@
 pub mod Table
 pub mod Runs
 pub mod Instances
+pub mod Listings
