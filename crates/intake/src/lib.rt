@@ -3,3 +3,4 @@ pub mod bytes;
 pub mod lines;
 pub mod shape;
 pub mod state;
+pub mod tables;

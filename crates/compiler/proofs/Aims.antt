@@ -1,0 +1,63 @@
+-- The numbers in a block, and where the blocks of a round stand: they fit words where the tables are within document 01's limits.
+-- Assumes that the tables are within theirs (`Within`), and that the block or the round begins early enough.
+use Prim.Native.Nat.{ℕ, suc, _+_, _*_, _≤_, _<_}
+use mathlib.Core.Path.{_≡_, sym, ap, _∙_}
+use mathlib.Core.Bool.{Bool, true, false}
+use mathlib.Core.List.{List}
+use native.Mathlib.Numerals.{add-one}
+use native.Mathlib.Omega.{arith}
+use native.Mathlib.Nat.{mul-le-mul-right}
+use lib.Dec.{eqb}
+use lib.ListN.{length}
+use borrow.Author.Tests.{eq-eqb, ne-eqb}
+use Rattle.theory.proofs.Lists.{sum-most}
+use Rattle.cells.specs.Cell.{greatestWord}
+use Rattle.cells.specs.Limits.{maxUnits}
+use Rattle.layout.specs.declared.counts.Counts.{Counts}
+use Rattle.layout.specs.Counts.{sizeOf, mostBlock, mostMode}
+use Rattle.layout.specs.Few.{Sized}
+use Rattle.layout.proofs.Limits.{block-most}
+use Rattle.compiler.specs.Block.{Lent, Within, Aimed, countsAt, unitOf, nextIn, aimIn, blockIn, blockStart}
+use Rattle.compiler.specs.declared.rounds.Round.{Round}
+use Rattle.compiler.proofs.Parts.{sized, parts-count}
+
+-- the block after the last unit's is the first, after any other the one that follows
+pub next-last : (round : Round) (k end : ℕ) → k + 1 ≡ round .units → round .first ≡ nextIn round k end
+next-last round k end e =
+    ap (λ (t : Bool). elim t as (λ t. ℕ) [ true ↦ round .first | false ↦ end ]) (sym (eq-eqb (suc k) (round .units) (sym (add-one k) ∙ e)))
+
+pub next-other : (round : Round) (k end : ℕ) → (k + 1 ≡ round .units → ⊥) → end ≡ nextIn round k end
+next-other round k end d =
+    ap (λ (t : Bool). elim t as (λ t. ℕ) [ true ↦ round .first | false ↦ end ]) (sym (ne-eqb (suc k) (round .units) (λ e. d (add-one k ∙ e))))
+
+-- it begins at one of two addresses
+next-most : (round : Round) (k end b : ℕ) → round .first ≤ b → end ≤ b → nextIn round k end ≤ b
+next-most round k end b l h = go (eqb (suc k) (round .units))
+  where
+    go : (t : Bool) → elim t as (λ t. ℕ) [ true ↦ round .first | false ↦ end ] ≤ b
+    go true = l
+    go false = h
+
+-- the numbers in a block fit words
+pub aimed : (round : Round) (k at : ℕ) (due : Counts) → round .ticks ≤ greatestWord → round .first ≤ greatestWord → at + mostBlock < greatestWord → Sized due
+    → Aimed (aimIn round k at due)
+aimed round k at due t f l s =
+    record {
+      stub = omega (arith, s);
+      ticks = t;
+      next = next-most round k (at + sizeOf due) greatestWord f (omega (arith, block-most due s));
+    }
+
+module _ (L : Lent) (entries : List ℕ) (round : Round) where
+  -- a block is as long as its size says, wherever it stands
+  pub block-length : (k at : ℕ) → length (blockIn L entries round k at) ≡ sizeOf (countsAt L (unitOf round k))
+  block-length k at = parts-count L entries (unitOf round k) (aimIn round k at (countsAt L (unitOf round k)))
+
+  -- no block begins later than the most before it
+  pub start-most : Within L → (k : ℕ) → blockStart L round k ≤ round .first + k * mostBlock
+  start-most w k =
+      omega (arith, sum-most (λ j. sizeOf (countsAt L (unitOf round j))) mostBlock k (λ j l. block-most _ (sized L entries (unitOf round j) w)))
+
+  -- so each block of a round ends before the mode's most
+  pub start-before : Within L → (k : ℕ) → k < suc maxUnits → blockStart L round k + mostBlock ≤ round .first + mostMode
+  start-before w k l = omega (arith, start-most w k, mul-le-mul-right {m = suc k} {n = suc maxUnits} mostBlock l)

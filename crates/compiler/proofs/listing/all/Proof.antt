@@ -1,0 +1,39 @@
+-- `compiler::listing::all` meets its contract: the modes stand behind the jump. Assumes nothing.
+use Prim.Native.Nat.{ℕ, _≤_}
+use mathlib.Core.Path.{sym, ap, subst, _∙_}
+use mathlib.Core.List.{[], _∷_}
+use native.Mathlib.Omega.{arith}
+use borrow.Author.Needs.{needs}
+use Rattle.cells.specs.Cell.{greatestWord}
+use Rattle.program.specs.Tables.{modeCount}
+use Rattle.code.specs.Op.{jump}
+use Rattle.compiler.specs.Written.{Written, three, written, writes}
+use Rattle.compiler.specs.Modes.{modesIn}
+use Rattle.compiler.proofs.listing.all.Statement.{statement}
+use Rattle.compiler.proofs.listing.all.Tie as tie
+
+address-requires : tie.Need-address-requires
+address-requires c κs = search needs
+
+instruction-requires : tie.Need-instruction-requires
+instruction-requires c κs =
+    let s = c .before .before .before .before .before in
+    (omega arith, (omega arith, (subst (λ (n : ℕ). n ≤ greatestWord) (sym (c .address .ensures)) (s .pre .1 .0 (s .args .start .0)), omega arith)))
+
+all-modes-requires : tie.Need-all-modes-requires
+all-modes-requires c κs = search needs
+
+same-length : tie.Need-same-length
+same-length c = search needs
+
+returns : tie.Need-returns
+returns c T e f g h i =
+    let a = c .before .before .before .before .before .before .before .before .before .before .before .before .args in
+    c .before .before .all-modes .ensures T e f g h i
+    ∙ ap (λ (w : Written). writes (modesIn T (a .entries .now) (modeCount T)) (written (w .code) 1))
+    (c .before .before .before .before .before .before .instruction .ensures ∙ ap (λ (n : ℕ). writes (three (jump n) ∷ []) (written (a .code .now) 0)) (c .before .before .before .before .before .before .before .address .ensures))
+
+pub all-spec : {M : Type 1} → statement M
+all-spec =
+    tie.close
+    (tie.spec address-requires instruction-requires all-modes-requires same-length returns)

@@ -1,0 +1,40 @@
+-- What compiling answers, together with the slice as it is left: for every program, and for one that numbers 1 to 10 pass.
+-- Assumes nothing.
+use Prim.Native.Nat.{ℕ, _*_}
+use mathlib.Core.Bool.{true, false, _||_}
+use mathlib.Core.List.{List, _++_}
+use lib.ListN.{length, drop}
+use Rattle.cells.specs.Limits.{wordsEach}
+use Rattle.program.specs.Tables.{Tables}
+use Rattle.code.specs.Op.{emit}
+use Rattle.code.specs.Compile.{Compiling, listingOf, codeLong, sliceShort, compileAnswer, compileSlice}
+use Rattle.code.specs.declared.Compiled.{Compiled}
+
+-- what is lent: these tables, and this slice
+abbrev pub compiling : Tables → List ℕ → Compiling
+compiling T slice = record { tables = T; slice = slice }
+
+-- an answer, and the slice as it is left
+pub record Outcome : Type 0 where
+  pub answer : Compiled
+  pub slice : List ℕ
+
+abbrev pub outcome : Compiled → List ℕ → Outcome
+outcome answer slice = record { answer = answer; slice = slice }
+
+abbrev pub compiled : Compiling → Outcome
+compiled L = outcome (compileAnswer L) (compileSlice L)
+
+-- a refusal has no length, and leaves the slice as it was
+abbrev pub refused : Compiling → ℕ → Outcome
+refused L n = outcome (record { number = n; length = 0 }) (L .slice)
+
+-- the listing is written; the rest of the slice stays as it was
+abbrev pub accepted : Compiling → Outcome
+accepted L =
+    outcome (record { number = 0; length = length (listingOf (L .tables)) })
+    (emit (listingOf (L .tables)) ++ drop (wordsEach * length (listingOf (L .tables))) (L .slice))
+
+-- number 11, or the listing
+abbrev pub listed : Compiling → Outcome
+listed L = elim (codeLong (L .tables) || sliceShort L) [ true ↦ refused L 11 | false ↦ accepted L ]

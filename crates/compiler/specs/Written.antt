@@ -1,0 +1,40 @@
+-- E code as it is written into a lent slice: the words of an instruction, and instructions one after the other.
+-- Assumes nothing: a word past the end of the slice changes nothing.
+use Prim.Native.Nat.{ℕ, _+_, _*_}
+use mathlib.Core.List.{List, [], _∷_}
+use lib.Seq.{sets}
+use Rattle.cells.specs.Limits.{wordsEach}
+use Rattle.code.specs.Op.{Op, call, schedule, branch, jump, future, return, faulty}
+
+-- the three words of an instruction
+pub record Words : Type 0 where
+  pub number : ℕ
+  pub first : ℕ
+  pub second : ℕ
+
+-- an instruction from its words; the words of one
+abbrev pub instruction : ℕ → ℕ → ℕ → Words
+instruction number first second = record { number = number; first = first; second = second }
+
+abbrev pub three : Op → Words
+three (call n) = instruction 0 n 0
+three (schedule t) = instruction 1 t 0
+three (branch d a) = instruction 2 d a
+three (jump a) = instruction 3 a 0
+three (future d a) = instruction 4 d a
+three return = instruction 5 0 0
+three faulty = instruction 6 0 0
+
+-- the slice as it is written so far, and the address of the next instruction
+pub record Written : Type 0 where
+  pub code : List ℕ
+  pub at : ℕ
+
+abbrev pub written : List ℕ → ℕ → Written
+written code at = record { code = code; at = at }
+
+-- instructions written one after the other
+abbrev pub writes : List Words → Written → Written
+writes [] w = w
+writes (o ∷ os) w =
+    writes os (written (sets (w .code) (w .at * wordsEach) (o .number ∷ o .first ∷ o .second ∷ [])) (w .at + 1))

@@ -1,0 +1,143 @@
+// E code of the round of a mode: the blocks of its units, one after the other.
+ghost use mathlib.Core.Path.{_≡_};
+ghost use Prim.Native.Nat.{suc, _+_, _≤_, _<_};
+ghost use lib.ListN.{length};
+ghost use Rattle.cells.specs.Cell.{greatestWord};
+ghost use Rattle.cells.specs.Limits.{maxUnits};
+ghost use Rattle.program.specs.Sets.{sensorRows};
+ghost use Rattle.layout.specs.Counts.{mostBlock, mostMode};
+ghost use Rattle.layout.specs.Few.{Sized};
+ghost use Rattle.compiler.specs.Written.{written, writes};
+ghost use Rattle.compiler.specs.Switches.{Addresses};
+ghost use Rattle.compiler.specs.Block.{lent, Within, nextIn, aimIn, blockIn, roundIn};
+use crate::blocks;
+use crate::blocks::Aim;
+use crate::rows::Instant;
+use cells::kinds::Mode;
+use layout::counts;
+use layout::counts::Counts;
+
+// The round of a mode: the mode, its units, the ticks of one, and where its first block stands.
+pub struct Round {
+    pub mode: Mode,
+    pub units: usize,
+    pub ticks: usize,
+    pub first: usize,
+}
+
+// The block after that of a unit, which ends at `end`: around the round it is the first.
+fn next_block(round: Round, unit: usize, end: usize) -> usize
+    requires { ⌜ unit < round .units ⌝ }
+    ensures { λ r. ⌜ r ≡ nextIn round unit end ⌝ }
+{
+    if unit + 1 == round.units {
+        return round.first;
+    }
+    end
+}
+
+// The numbers in the block of a unit, which stands at `at` and has so many instructions of each kind.
+fn aims(round: Round, unit: usize, at: usize, due: Counts) -> Aim
+    requires { ⌜ unit < round .units ⌝ }
+    requires { ⌜ at + mostBlock < greatestWord ⌝ }
+    requires { ⌜ Sized due ⌝ }
+    ensures { λ r. ⌜ r ≡ aimIn round unit at due ⌝ }
+{
+    let after = next_block(round, unit, at + counts::block_size(due));
+    Aim {
+        stub: at + counts::before_future(due) + 2,
+        ticks: round.ticks,
+        next: after,
+    }
+}
+
+// The block of a unit.
+fn block(
+    code: &mut [u32],
+    at: usize,
+    ports: &[i32],
+    invocations: &[i32],
+    updates: &[i32],
+    switches: &[i32],
+    entries: &[usize],
+    sensors: usize,
+    round: Round,
+    unit: usize,
+) -> usize
+    requires { ⌜ Within (lent (now ports) (now invocations) (now updates) (now switches)) ⌝ }
+    requires { ⌜ Addresses (now entries) ⌝ }
+    requires { ⌜ sensors ≡ length (sensorRows (now ports) (λ p. p)) ⌝ }
+    requires { ⌜ round .ticks ≤ greatestWord ⌝ }
+    requires { ⌜ round .first ≤ greatestWord ⌝ }
+    requires { ⌜ unit < round .units ⌝ }
+    requires { ⌜ at + mostBlock < greatestWord ⌝ }
+    ensures { λ r. ⌜ written (now (code .exit)) r ≡ writes (blockIn (lent (now (ports .entry)) (now (invocations .entry)) (now (updates .entry)) (now (switches .entry))) (now (entries .entry)) round unit at) (written (now (code .entry)) at) ⌝ }
+{
+    let mode = round.mode;
+    let when = Instant {
+        mode: mode,
+        units: round.units,
+        unit: unit,
+    };
+    let due = counts::count(
+        invocations,
+        updates,
+        switches,
+        sensors,
+        mode,
+        round.units,
+        unit,
+    );
+    let aim = aims(round, unit, at, due);
+    blocks::parts(
+        code,
+        at,
+        ports,
+        invocations,
+        updates,
+        switches,
+        entries,
+        when,
+        aim,
+    )
+}
+
+// The blocks of all units.
+pub fn all_blocks(
+    code: &mut [u32],
+    ports: &[i32],
+    invocations: &[i32],
+    updates: &[i32],
+    switches: &[i32],
+    entries: &[usize],
+    sensors: usize,
+    round: Round,
+) -> usize
+    requires { ⌜ Within (lent (now ports) (now invocations) (now updates) (now switches)) ⌝ }
+    requires { ⌜ Addresses (now entries) ⌝ }
+    requires { ⌜ sensors ≡ length (sensorRows (now ports) (λ p. p)) ⌝ }
+    requires { ⌜ round .ticks ≤ greatestWord ⌝ }
+    requires { ⌜ round .units ≤ suc maxUnits ⌝ }
+    requires { ⌜ round .first + mostMode < greatestWord ⌝ }
+    ensures { λ r. ⌜ written (now (code .exit)) r ≡ writes (roundIn (lent (now (ports .entry)) (now (invocations .entry)) (now (updates .entry)) (now (switches .entry))) (now (entries .entry)) round) (written (now (code .entry)) (round .first)) ⌝ }
+{
+    let n = round.units;
+    let mut at = round.first;
+    let mut unit = 0;
+    while unit < n {
+        at = block(
+            code,
+            at,
+            ports,
+            invocations,
+            updates,
+            switches,
+            entries,
+            sensors,
+            round,
+            unit,
+        );
+        unit += 1;
+    }
+    at
+}

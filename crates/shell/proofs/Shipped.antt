@@ -1,0 +1,47 @@
+-- What is printed of the answer to what was read is what document 01 has the program print.
+-- Assumes nothing.
+use Prim.Native.Nat.{ℕ, zero, suc, _*_}
+use mathlib.Core.Path.{_≡_, refl, ap, _∙_}
+use mathlib.Core.List.{List, [], _∷_, _++_, append-nil}
+use mathlib.Core.Option.{Option}
+use lib.IntN.{ℤ}
+use lib.ListN.{length, take, drop, replicate}
+use lib.Seq.{take-at}
+use Rattle.cells.specs.Limits.{maxCode, wordsEach}
+use Rattle.program.specs.Tables.{Tables}
+use Rattle.code.specs.Op.{emit, instructions}
+use Rattle.code.specs.Compile.{Compiling, listingOf, compileVerdict, compileAnswer, compileSlice}
+use Rattle.code.proofs.Words.{emit-instructions, emit-length}
+use Rattle.text.specs.Listing.{listingText}
+use Rattle.text.specs.Input.{Read, bad, tooMany, got, program}
+use Rattle.text.specs.Shipped.{verdictLine, answered, printed, shipped}
+use Rattle.shell.specs.Answer.{answerOf, blank, textOfAnswer}
+
+-- of a program that was read
+compiled-text : (T : Tables) (rest : List (Option ℤ)) → textOfAnswer (answerOf (got T rest) blank) ≡ printed (got T rest)
+unfolding answerOf textOfAnswer
+compiled-text T rest = go (compileVerdict L) refl
+  where
+    L : Compiling
+    L = record { tables = T; slice = replicate (wordsEach * maxCode) 0 }
+
+    go : (n : ℕ) → compileVerdict L ≡ n
+        → verdictLine (compileAnswer L .number) ++ listingText (instructions (take (wordsEach * compileAnswer L .length) (compileSlice L))) ≡ answered T (compileVerdict L)
+    go zero e =
+        rw (e, compileAnswer, compileSlice)
+        (ap (λ l. verdictLine 0 ++ listingText l)
+        (ap instructions (take-at (emit (listingOf T)) (drop (wordsEach * length (listingOf T)) (L .slice)) (wordsEach * length (listingOf T)) (emit-length (listingOf T)))
+        ∙ emit-instructions (listingOf T)))
+    go (suc n) e = rw (e, compileAnswer, compileSlice) (append-nil (verdictLine (suc n)))
+
+-- what is printed of what is answered is what the definition says, whatever was read
+read-text : (r : Read Tables) → textOfAnswer (answerOf r blank) ≡ printed r
+unfolding answerOf textOfAnswer
+read-text bad = refl
+read-text tooMany = refl
+read-text (got T rest) = compiled-text T rest
+
+-- so for every text
+pub shipped-text : (text : List ℕ) → textOfAnswer (answerOf (program text) blank) ≡ shipped text
+unfolding shipped
+shipped-text text = read-text (program text)

@@ -1,0 +1,3 @@
+-- What the shipped program answers to what it has read, what is printed of it, and what is promised.
+pub mod Answer
+pub mod Exact

@@ -1,0 +1,64 @@
+// What is to be printed of a text that was read: `bad input`, or the number, and with 0 the listing.
+ghost use mathlib.Core.Path.{_≡_};
+ghost use Rattle.intake.specs.Line.{fed};
+ghost use Rattle.intake.specs.Heard.{tablesIn, heard};
+ghost use Rattle.code.specs.Compile.{compileAnswer, compileSlice};
+ghost use Rattle.compiler.specs.Listed.{compiling};
+ghost use Rattle.shell.specs.Answer.{answered, answerOf};
+use code::Compiled;
+use intake::state::Intake;
+use intake::tables::table;
+
+// `bad`, or the number of compiling and the listing's length.
+pub struct Shown {
+    pub bad: bool,
+    pub number: usize,
+    pub length: usize,
+}
+
+// A text that was read whole, compiled.
+fn compiled(i: Intake, room: &[i32], code: &mut [u32]) -> Compiled
+    ensures answer { λ r. ⌜ r ≡ compileAnswer (compiling (tablesIn (fed i (now (room .entry)))) (now (code .entry))) ⌝ }
+    ensures slice { λ r. ⌜ now (code .exit) ≡ compileSlice (compiling (tablesIn (fed i (now (room .entry)))) (now (code .entry))) ⌝ }
+{
+    compiler::compile(
+        table(i, room, 0),
+        table(i, room, 1),
+        table(i, room, 2),
+        table(i, room, 3),
+        table(i, room, 4),
+        table(i, room, 5),
+        table(i, room, 6),
+        table(i, room, 7),
+        table(i, room, 8),
+        table(i, room, 9),
+        i.start,
+        code,
+    )
+}
+
+// Of a text that is complete, compiling's answer; of the others a count was out of its limit, or the text is bad.
+pub fn answer(i: Intake, room: &[i32], code: &mut [u32]) -> Shown
+    ensures { λ r. ⌜ answered r (now (code .exit)) ≡ answerOf (heard (fed i (now (room .entry)))) (now (code .entry)) ⌝ }
+{
+    if i.complete() {
+        let c = compiled(i, room, code);
+        return Shown {
+            bad: false,
+            number: c.number,
+            length: c.length,
+        };
+    }
+    if i.too_many {
+        return Shown {
+            bad: false,
+            number: 1,
+            length: 0,
+        };
+    }
+    Shown {
+        bad: true,
+        number: 0,
+        length: 0,
+    }
+}
