@@ -1,7 +1,9 @@
 // A part of a slice, cut to what there is.
-ghost use Prim.Native.Nat.{min};
+ghost use Prim.Native.Nat.{_*_, min};
 ghost use mathlib.Core.Path.{_≡_};
 ghost use lib.ListN.{take, drop};
+ghost use Rattle.cells.specs.Limits.{wordsEach};
+use crate::limits::Program;
 
 // The smaller of two.
 pub fn least(a: usize, b: usize) -> usize
@@ -20,4 +22,15 @@ pub fn part(room: &[i32], at: usize, n: usize) -> &[i32]
     let from = least(at, room.len());
     let end = from + least(n, room.len() - from);
     &room[from..end]
+}
+
+// The words of the first n instructions, as many as there are.
+pub fn words(code: &[u32], n: usize) -> &[u32]
+    ensures { λ r. ⌜ now r ≡ take (wordsEach * n) (now (code .entry)) ⌝ }
+{
+    if n <= code.len() / Program::WORDS {
+        let end = n * Program::WORDS;
+        return &code[..end];
+    }
+    code
 }

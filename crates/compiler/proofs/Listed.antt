@@ -7,7 +7,7 @@ use mathlib.Core.List.{List, [], _∷_, _++_, map, map-append}
 use native.Mathlib.Omega.{arith}
 use lib.Dec.{eqb}
 use lib.ListN.{length, getD}
-use Rattle.theory.specs.Lists.{cat, sum, Every}
+use Rattle.theory.specs.Lists.{cat, Every}
 use Rattle.theory.proofs.Lists.{sum-same, every-keep}
 use Rattle.program.specs.Tables.{Tables, startMode, modeCount}
 use Rattle.program.specs.Sets.{sensorRows}
@@ -19,9 +19,9 @@ use Rattle.code.specs.Op.{Op, jump, future, return}
 use Rattle.code.specs.Listing.{blockSize, modeSize, modeAddress, blockAddress, entryAddress, futureAddress, headOf, testsOf, bodyOf, endOf, stubsOf, blockCode, modeCode, listing}
 use Rattle.code.specs.Compile.{listingOf}
 use Rattle.code.proofs.Accepted.{accepted-aims}
-use Rattle.layout.specs.Counts.{countsIn, countsOf, beforeFuture, sizeOf}
-use Rattle.layout.specs.Layout.{sizeIn}
-use Rattle.layout.proofs.Sizes.{counts-due, future-counted}
+use Rattle.layout.specs.Counts.{countsOf, beforeFuture, sizeOf}
+use Rattle.layout.proofs.Sizes.{future-counted}
+use Rattle.layout.proofs.Laid.{counts-mode, size-mode}
 use Rattle.compiler.specs.Written.{Words, three}
 use Rattle.compiler.specs.Switches.{switchesIn, stubsIn}
 use Rattle.compiler.specs.Block.{countsAt, nextIn, blockIn, blockStart}
@@ -48,19 +48,17 @@ module _ (T : Tables) where
   abbrev P : Program
   P = programOf T
 
+  -- how many sensors the tables declare: those of the program
+  abbrev read : ℕ
+  read = length (sensorRows (T .ports) (λ p. p))
+
+  read-all : read ≡ length (P .sensors)
+  read-all = ap length (sym (sensors-rows T))
+
   module _ (m : ℕ) (l : m < modeCount T) where
     -- what is counted in the tables is what is due in the mode
     counted : (k : ℕ) → countsAt (lentOf T) (when T m k) ≡ countsOf P (mode P m) k
-    counted k =
-        ap (λ (n : ℕ). countsIn (T .invocations) (T .updates) (T .switches) n m (units T m) k) (ap length (sym (sensors-rows T)))
-        ∙ counts-due T m k
-        ∙ ap (λ (M : Mode). countsOf P M k) (sym (mode-row T m l))
-
-    -- so a mode is as long as in the listing
-    size-same : sizeIn T (length (sensorRows (T .ports) (λ p. p))) m ≡ modeSize P (mode P m)
-    size-same =
-        sum-same _ (blockSize P (mode P m)) (units T m) (λ k b. ap sizeOf (counted k))
-        ∙ ap (λ (M : Mode). sum (blockSize P (mode P m)) (M .units)) (sym (mode-row T m l))
+    counted k = counts-mode T read read-all m k l
 
     module _ (first : ℕ) (e : first ≡ modeAddress P m) (k : ℕ) where
       -- and a block stands where it does in the listing
@@ -112,7 +110,7 @@ module _ (T : Tables) where
 
     -- a mode stands where it does in the listing
     start-same : (m : ℕ) → m < modeCount T → modeStart T m ≡ modeAddress P m
-    start-same m l = ap (λ (n : ℕ). 1 + n) (sum-same _ (λ i. modeSize P (mode P i)) m (λ i h. size-same i (omega arith)))
+    start-same m l = ap (λ (n : ℕ). 1 + n) (sum-same _ (λ i. modeSize P (mode P i)) m (λ i h. size-mode T read read-all i (omega arith)))
 
     -- all is the listing
     pub all-same : (first : ℕ) → first ≡ blockAddress P (startMode T) 0 → allIn T entries first ≡ map three (listingOf T)

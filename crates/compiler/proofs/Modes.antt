@@ -1,26 +1,20 @@
--- The modes of a program, as they are written: the blocks of one are those of its round, and each begins where the layout says.
--- Assumes of the limits that the tables are within theirs (`Within`).
-use Prim.Native.Nat.{ℕ, suc, _+_, _/_, _≤_, _<_}
+-- The modes of a program, as they are written: the blocks of one are those of its round, and as long as the layout counts.
+-- Assumes nothing.
+use Prim.Native.Nat.{ℕ, _/_}
 use mathlib.Core.Path.{_≡_, sym, ap, _∙_}
 use mathlib.Core.List.{List, []}
-use native.Mathlib.Nat.{le-trans, mul-le-mul-right}
-use native.Mathlib.Omega.{arith}
 use lib.IntN.{ℤ, pos}
 use lib.ListN.{length}
-use Rattle.theory.proofs.Lists.{cat-length, sum-most}
+use Rattle.theory.proofs.Lists.{cat-length}
 use Rattle.cells.specs.Cell.{fieldAt}
-use Rattle.cells.specs.Limits.{maxModes}
 use Rattle.cells.specs.declared.kinds.Mode.{Mode}
 use Rattle.program.specs.Tables.{Tables, tables, modeWidth, modePeriod}
 use Rattle.program.specs.Sets.{sensorRows}
 use Rattle.program.specs.Units.{units}
-use Rattle.program.proofs.Units.{units-within}
-use Rattle.layout.specs.Counts.{sizeOf, mostMode, mostCode}
+use Rattle.layout.specs.Counts.{sizeOf}
 use Rattle.layout.specs.Layout.{sizeIn}
-use Rattle.layout.proofs.Limits.{mode-most}
-use Rattle.compiler.specs.Block.{lent, Within, countsAt, unitOf, blockIn, blockStart, roundIn}
-use Rattle.compiler.specs.Modes.{lentOf, roundOf, modeIn, modeStart}
-use Rattle.compiler.proofs.Parts.{sensors-most}
+use Rattle.compiler.specs.Block.{lent, countsAt, unitOf, blockIn, blockStart, roundIn}
+use Rattle.compiler.specs.Modes.{lentOf, roundOf, modeIn}
 use Rattle.compiler.proofs.Aims.{block-length}
 
 -- a program that has these tables
@@ -42,24 +36,9 @@ mode-told T entries own {u} {period} {m} at e f g h i q r p =
     whole : period ≡ modePeriod T m
     whole = p ∙ ap (λ (l : List ℤ). fieldAt modeWidth 0 l m) (sym f)
 
-module _ (T : Tables) (entries : List ℕ) where
-  -- how many sensors the program has
-  abbrev read : ℕ
-  read = length (sensorRows (T .ports) (λ p. p))
-
-  -- a mode is as long as its size says
-  pub mode-length : (m at : ℕ) → length (modeIn T entries m at) ≡ sizeIn T read m
-  mode-length m at =
-      cat-length (λ k. blockIn (lentOf T) entries (roundOf T m at) k (blockStart (lentOf T) (roundOf T m at) k))
-      (λ k. sizeOf (countsAt (lentOf T) (unitOf (roundOf T m at) k))) (units T m)
-      (λ k l. block-length (lentOf T) entries (roundOf T m at) k (blockStart (lentOf T) (roundOf T m at) k))
-
-  -- the modes before a mode, and the most of the mode itself, stay within the longest code
-  pub mode-before : Within (lentOf T) → (m : ℕ) → m < maxModes → modeStart T m + mostMode ≤ mostCode
-  mode-before w m l =
-      omega (
-        arith,
-        sum-most (sizeIn T read) mostMode m
-            (λ i h. mode-most (T .invocations) (T .updates) (T .switches) read i (units T i) (w .rows) (le-trans (sensors-most (T .ports) (λ p. p)) (w .ports)) (units T i) (units-within T i)),
-        mul-le-mul-right {m = suc m} {n = maxModes} mostMode l,
-      )
+-- a mode is as long as its size says
+pub mode-length : (T : Tables) (entries : List ℕ) (m at : ℕ) → length (modeIn T entries m at) ≡ sizeIn T (length (sensorRows (T .ports) (λ p. p))) m
+mode-length T entries m at =
+    cat-length (λ k. blockIn (lentOf T) entries (roundOf T m at) k (blockStart (lentOf T) (roundOf T m at) k))
+    (λ k. sizeOf (countsAt (lentOf T) (unitOf (roundOf T m at) k))) (units T m)
+    (λ k l. block-length (lentOf T) entries (roundOf T m at) k (blockStart (lentOf T) (roundOf T m at) k))

@@ -2,7 +2,7 @@
 -- Assumes of the limits that the tables are within theirs (`Within`).
 use Prim.Native.Nat.{ℕ, _*_, _≤_}
 use mathlib.Core.Path.{_≡_, _∙_}
-use mathlib.Core.List.{List, _++_, map}
+use mathlib.Core.List.{List, map}
 use native.Mathlib.Nat.{le-trans}
 use native.Mathlib.Omega.{arith}
 use lib.IntN.{ℤ}
@@ -45,14 +45,13 @@ module _ (L : Lent) (entries : List ℕ) (when : Instant) where
   -- before the tests: an output copy for each due task, the due updates, the sensors
   pub head-count : length (headIn (L .ports) (L .invocations) (L .updates) when) ≡ beforeTests (countsAt L when)
   head-count =
-      omega (
+      simp length-append
+      (omega (
         arith,
-        length-append (formRows outputForm (L .invocations) when) (formRows updateForm (L .updates) when ++ sensorRows (L .ports) reading),
-        length-append (formRows updateForm (L .updates) when) (sensorRows (L .ports) reading),
         due-count invocationWidth (L .invocations) when (rowWords outputForm (L .invocations)),
         due-count updateWidth (L .updates) when (rowWords updateForm (L .updates)),
         sensors-count (L .ports) reading,
-      )
+      ))
 
   -- a test for each due switch
   pub tests-count : (stub : ℕ) → length (map three (testsOf (switchesIn (L .switches) when) stub)) ≡ countsAt L when .switches
@@ -64,12 +63,12 @@ module _ (L : Lent) (entries : List ℕ) (when : Instant) where
   -- two instructions for each due task
   pub body-count : length (bodyIn (L .invocations) when) ≡ 2 * countsAt L when .invocations
   body-count =
-      omega (
+      simp length-append
+      (omega (
         arith,
-        length-append (formRows driverForm (L .invocations) when) (formRows scheduleForm (L .invocations) when),
         due-count invocationWidth (L .invocations) when (rowWords driverForm (L .invocations)),
         due-count invocationWidth (L .invocations) when (rowWords scheduleForm (L .invocations)),
-      )
+      ))
 
   -- two for each due switch
   pub stubs-twice : length (map three (stubsIn entries (switchesIn (L .switches) when))) ≡ 2 * countsAt L when .switches

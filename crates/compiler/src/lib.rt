@@ -6,7 +6,6 @@ ghost use Rattle.compiler.specs.Listed.{compiling};
 use cells::kinds::Mode;
 use cells::table;
 use code::Compiled;
-use fields::slices;
 
 pub mod accepted;
 pub mod blocks;

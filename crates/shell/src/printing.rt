@@ -1,11 +1,10 @@
 // What is printed. Each function answers whether all of it was written; after a write that fails nothing follows.
 ghost use mathlib.Core.Path.{_≡_};
 ghost use lib.ListN.{take};
-ghost use Prim.Native.Nat.{_*_};
-ghost use Rattle.cells.specs.Limits.{wordsEach};
 use crate::answer::Shown;
 use cells::limits::Program;
 use cells::parts::least;
+use cells::parts::words;
 use text::listing;
 use text::page;
 
@@ -15,17 +14,6 @@ fn first(bytes: &[u8], n: usize) -> &[u8]
 {
     let end = least(n, bytes.len());
     &bytes[..end]
-}
-
-// The words of the first n instructions, as many as there are.
-fn words(code: &[u32], n: usize) -> &[u32]
-    ensures { λ r. ⌜ now r ≡ take (wordsEach * n) (now (code .entry)) ⌝ }
-{
-    if n <= code.len() / Program::WORDS {
-        let end = n * Program::WORDS;
-        return &code[..end];
-    }
-    code
 }
 
 // These bytes, in as many writes as it takes.

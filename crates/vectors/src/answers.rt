@@ -1,10 +1,12 @@
 // The cases of one file, by its kind.
+use crate::compiles;
 use crate::kind;
 use crate::out;
 use crate::verdicts;
 use cases::numbers;
 use cases::stream;
 use cases::stream::Reader;
+use libc::STDOUT_FILENO;
 
 // What became of a case: whether its kind is known, and whether its line could be written.
 pub struct Answer {
@@ -17,6 +19,9 @@ pub struct Answer {
 fn case(kind: &[u8], r: Reader, buffer: &mut [u8]) -> Answer {
     if check::same(kind, b"verdict") {
         return verdicts::case(r, buffer);
+    }
+    if check::same(kind, b"compile") {
+        return compiles::case(r, buffer);
     }
     Answer {
         reader: r,
@@ -62,20 +67,30 @@ fn opened(kind: &[u8], name: &[u8], fd: i32, buffer: &mut [u8]) -> bool {
     out::say(b"bad input: ", name)
 }
 
-// The file of this name; false where a write failed. A case of a refused reader tells whether the kind is known.
-pub fn file(name: &[u8]) -> bool {
+// The cases of the file of this name; false where a write failed. A case of a refused reader tells whether the kind is known.
+fn cases_of(kind: &[u8], name: &[u8], fd: i32) -> bool {
     let mut buffer = io::buffer();
-    let kind = kind::of(name);
     let asked = case(kind, stream::refused(stream::open(0)), &mut buffer);
     if !asked.known {
         return out::say(b"unknown kind: ", name);
     }
+    opened(kind, name, fd, &mut buffer)
+}
+
+// The file of this name. One of the kind `main` is what the shipped program reads, and its body answers it.
+pub fn file(name: &[u8]) -> bool {
+    let kind = kind::of(name);
     let fd = os::open_read(name);
     if fd < 0 {
         os::fail(name);
         return out::say(b"no file: ", name);
     }
-    let written = opened(kind, name, fd, &mut buffer);
+    if check::same(kind, b"main") {
+        shell::run(fd, STDOUT_FILENO);
+        libc::close(fd);
+        return true;
+    }
+    let written = cases_of(kind, name, fd);
     libc::close(fd);
     written
 }

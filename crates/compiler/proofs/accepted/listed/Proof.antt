@@ -50,7 +50,7 @@ all-requires : tie.Need-all-requires
 all-requires c κs =
     let s = c .before .before .before .before .before .before .before .before .before in
     let small = c .before .before .before .before .before .before .lay-out .ensures .1 in
-    (s .pre .0, (λ m. omega (arith, small .starts m), (λ m. omega (arith, small .entries m), (c .before .before .before .before .before .before .before .sensors .ensures, (s .pre .1 .0, s .pre .1 .1)))))
+    (s .pre .0, (λ m. omega (arith, small .starts m, small .entries m), (λ m. omega (arith, small .starts m, small .entries m), (c .before .before .before .before .before .before .before .sensors .ensures, (s .pre .1 .0, s .pre .1 .1)))))
 
 same-length : tie.Need-same-length
 same-length c = search needs

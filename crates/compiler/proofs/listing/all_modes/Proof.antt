@@ -2,18 +2,22 @@
 use Prim.Native.Nat.{ℕ, _-_, _≤_, _<_}
 use mathlib.Core.Path.{_≡_, refl, sym, ap, subst, _∙_}
 use mathlib.Core.List.{List}
+use native.Mathlib.Nat.{le-trans}
 use native.Mathlib.Omega.{arith}
 use lib.IntN.{ℤ}
 use lib.ListN.{length}
 use borrow.Author.Needs.{needs}
 use Rattle.cells.specs.Cell.{rowsIn}
+use Rattle.cells.specs.Limits.{maxModes}
 use Rattle.program.specs.Tables.{Tables, modeWidth, modeCount}
 use Rattle.program.specs.Sets.{sensorRows}
 use Rattle.layout.specs.Layout.{sizeIn}
+use Rattle.layout.proofs.Laid.{start-near}
 use Rattle.compiler.specs.Written.{Words, written, writes}
 use Rattle.compiler.specs.Modes.{modeIn, modeStart}
+use Rattle.compiler.proofs.Parts.{sensors-most}
 use Rattle.compiler.proofs.Grown.{Grown, grown-none, grown-more, grown-all, grown-length, grown-at}
-use Rattle.compiler.proofs.Modes.{having, mode-length, mode-before}
+use Rattle.compiler.proofs.Modes.{having, mode-length}
 use Rattle.compiler.proofs.listing.all_modes.Statement.{statement}
 use Rattle.compiler.proofs.listing.all_modes.Tie as tie
 
@@ -43,10 +47,14 @@ loop-holds c T e f g h i = grown-none
 one-mode-requires : tie.Need-one-mode-requires Inv-loop μ-loop
 one-mode-requires c κs =
     let s = c .before .before .before .before .before in
-    let m = c .before .before .loop .m in
-    let l = c .before .loop-test .taken in
-    let before = mode-before (lent s) (s .args .entries .now) (s .pre .0) m (omega (arith, s .pre .1 .1 .1 .1)) in
-    (s .pre .0, (s .pre .1 .0, (s .pre .1 .1 .0, (s .pre .1 .1 .1 .0, (l, (omega (arith, s .pre .1 .1 .1 .1), omega (arith, before, here (lent s) (s .args .entries .now) (c .before .before .loop .inv (lent s) refl refl refl refl refl))))))))
+    let l = c .before .before .loop in
+    let ports = s .args .ports .now in
+    let below : l .m < maxModes = omega (arith, c .before .loop-test .taken, s .pre .1 .1 .1 .1) in
+    let few = le-trans (sensors-most ports (λ (p : ℕ). p)) (s .pre .0 .ports) in
+    let near =
+    start-near (lent s) (length (sensorRows ports (λ (p : ℕ). p))) (s .pre .0 .rows) few (l .m) below
+    (here (lent s) (s .args .entries .now) (l .inv (lent s) refl refl refl refl refl)) in
+    (s .pre .0, (s .pre .1 .0, (s .pre .1 .1 .0, (s .pre .1 .1 .1 .0, (c .before .loop-test .taken, (below, omega (arith, near)))))))
 
 add-m : tie.Need-add-m Inv-loop μ-loop
 add-m c = record { fits = omega (arith, c .before .before .before .before .loop-test .taken, c .before .before .before .before .before .before .before .before .pre .1 .1 .1 .1) }

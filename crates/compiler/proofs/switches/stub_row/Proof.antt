@@ -1,6 +1,6 @@
 -- `compiler::switches::stub_row` meets its contract: the row says driver and target. Assumes nothing.
 use Prim.Native.Nat.{ℕ, _≤_}
-use mathlib.Core.Path.{sym, ap, ap₂, subst, _∙_}
+use mathlib.Core.Path.{_≡_, sym, ap, ap₂, subst, _∙_}
 use mathlib.Core.List.{List, [], _∷_, map}
 use lib.ListN.{getD}
 use borrow.Author.Needs.{needs}
@@ -41,12 +41,13 @@ returns c =
     let a = c .before .before .before .before .before .before .before .before .before .before .before .args in
     let w = written (a .code .now) (a .at) in
     let due = isDue switchWidth (a .switches .now) (a .when) in
+    let row = switchIn (a .switches .now) in
+    let driver : c .before .before .before .before .before .before .driver .result .0 ≡ row (a .i) .driver = c .before .before .before .before .before .before .driver .ensures in
+    let target : c .before .before .before .before .before .mode .result .0 ≡ row (a .i) .target = c .before .before .before .before .before .mode .ensures in
     c .before .before .stub .ensures
-    ∙ ap₂ (λ (d to : ℕ). writes (map three (callDriver d ∷ jump to ∷ [])) w)
-    (c .before .before .before .before .before .before .driver .ensures)
-    (c .before .before .before .address .ensures ∙ ap (λ (m : ℕ). getD (a .entries .now) m 0) (c .before .before .before .before .before .mode .ensures))
+    ∙ ap₂ (λ (d to : ℕ). writes (map three (callDriver d ∷ jump to ∷ [])) w) driver (c .before .before .before .address .ensures ∙ ap (λ (m : ℕ). getD (a .entries .now) m 0) target)
     ∙ ap (λ (ws : List Switch). writes (map three (stubsIn (a .entries .now) ws)) w)
-    (sym (one-yes due (switchIn (a .switches .now)) (a .i) (sym (c .before .before .before .before .before .before .before .before .row-due .ensures) ∙ c .before .before .before .before .before .before .before .if1 .taken)))
+    (sym (one-yes due row (a .i) (sym (c .before .before .before .before .before .before .before .before .row-due .ensures) ∙ c .before .before .before .before .before .before .before .if1 .taken)))
 
 returns-2 : tie.Need-returns-2
 returns-2 c =

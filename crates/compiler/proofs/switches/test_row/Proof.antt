@@ -1,6 +1,6 @@
 -- `compiler::switches::test_row` meets its contract: the row says the driver. Assumes nothing.
 use Prim.Native.Nat.{ℕ}
-use mathlib.Core.Path.{sym, ap, _∙_}
+use mathlib.Core.Path.{_≡_, sym, ap, _∙_}
 use mathlib.Core.List.{List, [], _∷_, map}
 use borrow.Author.Needs.{needs}
 use Rattle.program.specs.Tables.{switchWidth}
@@ -32,11 +32,12 @@ returns : tie.Need-returns
 returns c =
     let a = c .before .before .before .before .before .before .before .before .before .args in
     let due = isDue switchWidth (a .switches .now) (a .when) in
+    let row = switchIn (a .switches .now) in
+    let driver : c .before .before .before .before .before .driver .result .0 ≡ row (a .i) .driver = c .before .before .before .before .before .driver .ensures in
     c .before .before .instruction .ensures
     ∙ ap (λ (os : List Words). writes os (written (a .code .now) (a .at)))
-    (ap (λ (n : ℕ). instruction 2 n (a .stub) ∷ []) (c .before .before .before .index .ensures ∙ c .before .before .before .before .before .driver .ensures)
-    ∙ ap (λ (ws : List Switch). map three (testsOf ws (a .stub)))
-    (sym (one-yes due (switchIn (a .switches .now)) (a .i) (sym (c .before .before .before .before .before .before .before .row-due .ensures) ∙ c .before .before .before .before .before .before .if1 .taken))))
+    (ap (λ (n : ℕ). instruction 2 n (a .stub) ∷ []) (c .before .before .before .index .ensures ∙ driver)
+    ∙ ap (λ (ws : List Switch). map three (testsOf ws (a .stub))) (sym (one-yes due row (a .i) (sym (c .before .before .before .before .before .before .before .row-due .ensures) ∙ c .before .before .before .before .before .before .if1 .taken))))
 
 returns-2 : tie.Need-returns-2
 returns-2 c =

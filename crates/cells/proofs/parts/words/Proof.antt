@@ -1,14 +1,14 @@
--- `shell::printing::words` meets its contract: more instructions than there are words for are all. Assumes nothing.
+-- `cells::parts::words` meets its contract: more instructions than there are words for are all. Assumes nothing.
 use Prim.Native.Nat.{_*_}
 use mathlib.Core.Path.{sym, ap, _∙_}
 use native.Mathlib.Omega.{arith}
 use native.Mathlib.Nat.{mul-comm}
 use lib.ListN.{take}
 use lib.Seq.{length-take-le, take-all}
 use Rattle.cells.specs.Limits.{wordsEach}
 use borrow.Author.Needs.{needs}
-use Rattle.shell.proofs.printing.words.Statement.{statement}
-use Rattle.shell.proofs.printing.words.Tie as tie
+use Rattle.cells.proofs.parts.words.Statement.{statement}
+use Rattle.cells.proofs.parts.words.Tie as tie
 
 mul-end : tie.Need-mul-end
 mul-end c = search needs

@@ -1,0 +1,84 @@
+// The kind `compile`: a program and how many words are lent a case; its verdict, length and the words written a line.
+use crate::answers::Answer;
+use crate::out;
+use cases::numbers;
+use cases::room;
+use cases::stream::Reader;
+use cases::tables;
+use cases::tables::Lengths;
+use cells::parts::least;
+use cells::parts::part;
+use cells::parts::words;
+use cells::table;
+use code::Compiled;
+
+// So many words can be lent; no listing needs as many.
+const LENT: usize = 20480;
+
+// A program that was read, compiled.
+fn compiled(l: Lengths, room: &[i32], code: &mut [u32]) -> Compiled {
+    compiler::compile(
+        part(room, room::PORTS_AT, l.ports),
+        part(room, room::TASKS_AT, l.tasks),
+        part(room, room::TASK_PORTS_AT, l.task_ports),
+        part(room, room::DRIVERS_AT, l.drivers),
+        part(room, room::COPIES_AT, l.copies),
+        part(room, room::MODES_AT, l.modes),
+        part(room, room::MODE_PORTS_AT, l.mode_ports),
+        part(room, room::INVOCATIONS_AT, l.invocations),
+        part(room, room::UPDATES_AT, l.updates),
+        part(room, room::SWITCHES_AT, l.switches),
+        l.start,
+        code,
+    )
+}
+
+// These words, each after a space; false where one could not be written.
+fn listed(code: &[u32]) -> bool {
+    let mut i = 0;
+    while i < code.len() {
+        if !out::after_space(table::word(code, i)) {
+            return false;
+        }
+        i += 1;
+    }
+    true
+}
+
+// The line of a program that was read, with so many words lent.
+fn judged(l: Lengths, room: &[i32], code: &mut [u32], n: usize) -> bool {
+    let end = least(n, code.len());
+    let answer = compiled(l, room, &mut code[..end]);
+    if !out::digits(answer.number) {
+        return false;
+    }
+    if !out::after_space(answer.length) {
+        return false;
+    }
+    if !listed(words(code, answer.length)) {
+        return false;
+    }
+    out::line_end()
+}
+
+pub fn case(r: Reader, buffer: &mut [u8]) -> Answer {
+    let mut room = [0i32; room::ALL];
+    let mut code = [0u32; LENT];
+    let l = tables::program(r, buffer, &mut room);
+    let amount = numbers::count(l.reader, buffer);
+    let reader = amount.reader;
+    let known = true;
+    if !reader.ok {
+        return Answer {
+            reader,
+            known,
+            written: true,
+        };
+    }
+    let written = judged(l, &room, &mut code, amount.value);
+    Answer {
+        reader,
+        known,
+        written,
+    }
+}
