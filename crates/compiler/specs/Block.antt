@@ -17,7 +17,7 @@ use Rattle.layout.specs.declared.counts.Counts.{Counts}
 use Rattle.layout.specs.Counts.{countsIn, beforeFuture, sizeOf}
 use Rattle.layout.specs.Few.{Few}
 use Rattle.compiler.specs.Written.{Words, three}
-use Rattle.compiler.specs.Rows.{reading, formRows}
+use Rattle.compiler.specs.Rows.{invocationTask, invocationDriver, updateDriver, reading, formRows}
 use Rattle.compiler.specs.Switches.{switchesIn, stubsIn}
 use Rattle.compiler.specs.declared.rows.Form.{Form}
 use Rattle.compiler.specs.declared.rows.Instant.{Instant}
@@ -39,18 +39,25 @@ pub record Within (L : Lent) : Type 0 where
   pub ports : rowsIn portWidth (L .ports) ≤ maxPorts
   pub rows : Few (L .invocations) (L .updates) (L .switches)
 
+-- the numbers of `call` and `schedule`
+abbrev pub callNumber : ℕ
+callNumber = 0
+
+abbrev pub scheduleNumber : ℕ
+scheduleNumber = 1
+
 -- the output copy of a task, a due update, a task driver, a schedule
 abbrev pub outputForm : Form
-outputForm = record { width = invocationWidth; column = 2; number = 0; base = firstOutputCall }
+outputForm = record { width = invocationWidth; column = invocationTask; number = callNumber; base = firstOutputCall }
 
 abbrev pub updateForm : Form
-updateForm = record { width = updateWidth; column = 2; number = 0; base = 0 }
+updateForm = record { width = updateWidth; column = updateDriver; number = callNumber; base = 0 }
 
 abbrev pub driverForm : Form
-driverForm = record { width = invocationWidth; column = 3; number = 0; base = 0 }
+driverForm = record { width = invocationWidth; column = invocationDriver; number = callNumber; base = 0 }
 
 abbrev pub scheduleForm : Form
-scheduleForm = record { width = invocationWidth; column = 2; number = 1; base = 0 }
+scheduleForm = record { width = invocationWidth; column = invocationTask; number = scheduleNumber; base = 0 }
 
 -- the numbers in a block fit words, and so does the address of each of its stubs
 pub record Aimed (aim : Aim) : Type 0 where

@@ -14,6 +14,22 @@ use Rattle.compiler.specs.Written.{Words, instruction, three}
 use Rattle.compiler.specs.declared.rows.Form.{Form}
 use Rattle.compiler.specs.declared.rows.Instant.{Instant}
 
+-- the columns in which rows name a task, a driver, a target mode
+abbrev pub invocationTask : ℕ
+invocationTask = 2
+
+abbrev pub invocationDriver : ℕ
+invocationDriver = 3
+
+abbrev pub updateDriver : ℕ
+updateDriver = 2
+
+abbrev pub switchTarget : ℕ
+switchTarget = 2
+
+abbrev pub switchDriver : ℕ
+switchDriver = 3
+
 -- row i of a table of this width is due at the unit
 abbrev pub isDue : ℕ → List ℤ → Instant → ℕ → Bool
 isDue width t when = rowDue width t (when .mode .0) (when .units) (when .unit)

@@ -9,12 +9,12 @@ use Rattle.program.specs.Tables.{switchWidth, rowFrequency}
 use Rattle.program.specs.Program.{Switch}
 use Rattle.code.specs.Op.{Op, jump}
 use Rattle.code.specs.Listing.{callDriver}
-use Rattle.compiler.specs.Rows.{dueAt}
+use Rattle.compiler.specs.Rows.{switchTarget, switchDriver, dueAt}
 use Rattle.compiler.specs.declared.rows.Instant.{Instant}
 
 -- the switch that row i says
 abbrev pub switchIn : List ℤ → ℕ → Switch
-switchIn t i = record { frequency = rowFrequency switchWidth t i; target = namedAt switchWidth 2 t i; driver = namedAt switchWidth 3 t i }
+switchIn t i = record { frequency = rowFrequency switchWidth t i; target = namedAt switchWidth switchTarget t i; driver = namedAt switchWidth switchDriver t i }
 
 -- the switches that are due
 abbrev pub switchesIn : List ℤ → Instant → List Switch
