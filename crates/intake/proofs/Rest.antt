@@ -9,7 +9,7 @@ use lib.IntN.{ℤ, pos}
 use lib.ListN.{length}
 use borrow.Author.Tests.{le-leb, lt-leb}
 use Rattle.program.specs.Tables.{Tables}
-use Rattle.text.specs.Input.{Read, bad, tooMany, got, then, one, several, table, Shape, allOf, placed, ended}
+use Rattle.text.specs.Input.{Read, bad, tooMany, got, then, several, table, Shape, allOf, placed, ended}
 
 -- what follows what follows
 then-after : {A B C : Type 0} (r : Read A) (g : A → List (Option ℤ) → Read B) (h : B → List (Option ℤ) → Read C)

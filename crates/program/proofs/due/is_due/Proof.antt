@@ -1,6 +1,5 @@
 -- `program::due::is_due` meets its contract: a quotient by 0 is 0, and a remainder by 0 the number itself. Assumes nothing.
-use mathlib.Core.Path.{refl, ap}
-use lib.Dec.{eqb}
+use mathlib.Core.Path.{refl}
 use native.Mathlib.Nat.{div-zero, mod-zero}
 use Rattle.program.specs.Units.{due}
 use borrow.Author.Needs.{needs}
