@@ -14,5 +14,4 @@ pub mod Begun
 pub mod Cutting
 pub mod Text
 pub mod Decided
-pub mod Heard
 pub mod Exact
