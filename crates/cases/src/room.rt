@@ -6,10 +6,12 @@ use cells::columns::invocation;
 use cells::columns::mode;
 use cells::columns::mode_port;
 use cells::columns::port;
+use cells::columns::schedule;
 use cells::columns::switch;
 use cells::columns::task;
 use cells::columns::task_port;
 use cells::columns::update;
+use cells::columns::window;
 use cells::limits::Program;
 
 pub const PORTS: usize = (Program::PORTS + 1) * port::WIDTH;
@@ -31,6 +33,10 @@ pub const INVOCATIONS: usize = (Program::INVOCATIONS + 1) * invocation::WIDTH;
 pub const UPDATES: usize = (Program::UPDATES + 1) * update::WIDTH;
 
 pub const SWITCHES: usize = (Program::SWITCHES + 1) * switch::WIDTH;
+
+pub const WINDOWS: usize = (Program::WINDOWS + 1) * window::WIDTH;
+
+pub const PART: usize = (Program::PART + 1) * schedule::WIDTH;
 
 // A program's ten tables lie one after the other in one room. Where each begins:
 pub const PORTS_AT: usize = 0;

@@ -10,14 +10,14 @@ use lib.ListN.{length, length-append, length-map}
 use Rattle.theory.proofs.Lists.{those-count, those-few}
 use Rattle.cells.specs.Cell.{rowsIn}
 use Rattle.program.specs.Tables.{portWidth, invocationWidth, updateWidth, switchWidth}
-use Rattle.program.specs.Sets.{sensorRows}
+use Rattle.program.specs.Sets.{isSensor, sensorRows}
 use Rattle.code.specs.Listing.{testsOf}
 use Rattle.code.proofs.Length.{tests-length}
 use Rattle.layout.specs.Counts.{beforeTests, sizeOf}
 use Rattle.layout.specs.Few.{Sized}
 use Rattle.layout.proofs.Limits.{counts-sized}
 use Rattle.compiler.specs.Written.{three}
-use Rattle.compiler.specs.Rows.{isDue, dueAt, rowWords, formRows, isSensor, reading}
+use Rattle.compiler.specs.Rows.{isDue, dueAt, rowWords, formRows, reading}
 use Rattle.compiler.specs.Switches.{switchIn, switchesIn, stubsIn}
 use Rattle.compiler.specs.Block.{Lent, Within, outputForm, updateForm, driverForm, scheduleForm, headIn, bodyIn, partsIn, countsAt}
 use Rattle.compiler.specs.declared.rows.Form.{Form}

@@ -10,13 +10,13 @@ use Rattle.theory.specs.Lists.{Every}
 use Rattle.theory.proofs.Lists.{map-those}
 use Rattle.cells.specs.Cell.{rowsIn, namedAt}
 use Rattle.program.specs.Tables.{Tables, portWidth, invocationWidth, updateWidth, invTask, updDriver}
-use Rattle.program.specs.Sets.{sensorRows}
+use Rattle.program.specs.Sets.{isSensor, sensorRows}
 use Rattle.program.specs.Program.{Program, Invocation, Update, Switch, invocationRow, updateRow, modeRow, programOf, dueInvocations, dueUpdates, dueSwitches, dueTasks}
 use Rattle.program.proofs.Decoded.{sensors-rows, due-invocations, due-updates, due-switches}
 use Rattle.code.specs.Op.{Op, schedule, jump}
 use Rattle.code.specs.Listing.{callDriver, callOutput, callSensor, entryAddress, headOf, bodyOf, stubsOf}
 use Rattle.compiler.specs.Written.{Words, instruction, three}
-use Rattle.compiler.specs.Rows.{isDue, dueAt, formRows, isSensor, reading}
+use Rattle.compiler.specs.Rows.{isDue, dueAt, formRows, reading}
 use Rattle.compiler.specs.Switches.{switchesIn, stubsIn}
 use Rattle.compiler.specs.Block.{updateForm, headIn, bodyIn, unitOf}
 use Rattle.compiler.specs.Modes.{roundOf}

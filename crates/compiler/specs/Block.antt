@@ -9,7 +9,7 @@ use lib.ListN.{length}
 use Rattle.theory.specs.Lists.{cat, sum}
 use Rattle.cells.specs.Cell.{rowsIn, greatestWord}
 use Rattle.cells.specs.Limits.{maxPorts, maxSwitches, firstOutputCall}
-use Rattle.program.specs.Tables.{portWidth, invocationWidth, updateWidth}
+use Rattle.program.specs.Tables.{portWidth, invocationWidth, invocationTask, invocationDriver, updateWidth, updateDriver}
 use Rattle.program.specs.Sets.{sensorRows}
 use Rattle.code.specs.Op.{future, return}
 use Rattle.code.specs.Listing.{testsOf}
@@ -17,7 +17,7 @@ use Rattle.layout.specs.declared.counts.Counts.{Counts}
 use Rattle.layout.specs.Counts.{countsIn, beforeFuture, sizeOf}
 use Rattle.layout.specs.Few.{Few}
 use Rattle.compiler.specs.Written.{Words, three}
-use Rattle.compiler.specs.Rows.{invocationTask, invocationDriver, updateDriver, reading, formRows}
+use Rattle.compiler.specs.Rows.{reading, formRows}
 use Rattle.compiler.specs.Switches.{switchesIn, stubsIn}
 use Rattle.compiler.specs.declared.rows.Form.{Form}
 use Rattle.compiler.specs.declared.rows.Instant.{Instant}

@@ -1,24 +1,17 @@
 -- The blocks of all modes, as they are written from the lent tables; where each mode stands is counted.
 -- Assumes nothing.
-use Prim.Native.Nat.{ℕ, _+_, _/_, _≤_, _<_}
+use Prim.Native.Nat.{ℕ, _/_}
 use mathlib.Core.List.{List, _∷_}
-use lib.IntN.{ℤ}
 use lib.ListN.{length}
-use Rattle.theory.specs.Lists.{cat, sum}
-use Rattle.cells.specs.Cell.{rowsIn, fieldAt}
-use Rattle.cells.specs.Limits.{maxPeriod}
-use Rattle.program.specs.Tables.{Tables, modeWidth, modeCount, modePeriod}
+use Rattle.theory.specs.Lists.{cat}
+use Rattle.program.specs.Tables.{Tables, modeCount, modePeriod}
 use Rattle.program.specs.Sets.{sensorRows}
 use Rattle.program.specs.Units.{units}
 use Rattle.code.specs.Op.{jump}
-use Rattle.layout.specs.Layout.{sizeIn}
+use Rattle.layout.specs.Layout.{startIn}
 use Rattle.compiler.specs.Written.{Words, three}
 use Rattle.compiler.specs.Block.{Lent, lent, roundIn}
 use Rattle.compiler.specs.declared.rounds.Round.{Round}
-
--- no period is longer than document 01 allows
-abbrev pub Periods : List ℤ → Type 0
-Periods modes = (m : ℕ) → m < rowsIn modeWidth modes → fieldAt modeWidth 0 modes m ≤ maxPeriod
 
 -- the tables of a program of which blocks are written
 abbrev pub lentOf : Tables → Lent
@@ -32,9 +25,9 @@ roundOf T m first = record { mode = record { 0 = m }; units = units T m; ticks =
 abbrev pub modeIn : Tables → List ℕ → ℕ → ℕ → List Words
 modeIn T entries m first = roundIn (lentOf T) entries (roundOf T m first)
 
--- where mode m stands: behind the jump at address 0 and the modes before it
+-- where mode m stands
 abbrev pub modeStart : Tables → ℕ → ℕ
-modeStart T m = 1 + sum (sizeIn T (length (sensorRows (T .ports) (λ p. p)))) m
+modeStart T m = startIn T (length (sensorRows (T .ports) (λ p. p))) m
 
 -- the first n modes
 abbrev pub modesIn : Tables → List ℕ → ℕ → List Words

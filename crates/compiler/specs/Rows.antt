@@ -3,32 +3,14 @@
 use Prim.Native.Nat.{ℕ, _+_, _≤_}
 use mathlib.Core.Bool.{Bool}
 use mathlib.Core.List.{List}
-use lib.Dec.{eqb}
 use lib.IntN.{ℤ}
-use Rattle.cells.specs.Cell.{Column, fieldAt, namedAt, greatestWord}
+use Rattle.cells.specs.Cell.{Column, namedAt, greatestWord}
 use Rattle.cells.specs.Limits.{firstSensorCall}
-use Rattle.program.specs.Tables.{portWidth, sensor}
 use Rattle.program.specs.Units.{rowDue, dueRows}
 use Rattle.code.specs.Listing.{callSensor}
 use Rattle.compiler.specs.Written.{Words, instruction, three}
 use Rattle.compiler.specs.declared.rows.Form.{Form}
 use Rattle.compiler.specs.declared.rows.Instant.{Instant}
-
--- the columns in which rows name a task, a driver, a target mode
-abbrev pub invocationTask : ℕ
-invocationTask = 2
-
-abbrev pub invocationDriver : ℕ
-invocationDriver = 3
-
-abbrev pub updateDriver : ℕ
-updateDriver = 2
-
-abbrev pub switchTarget : ℕ
-switchTarget = 2
-
-abbrev pub switchDriver : ℕ
-switchDriver = 3
 
 -- row i of a table of this width is due at the unit
 abbrev pub isDue : ℕ → List ℤ → Instant → ℕ → Bool
@@ -52,9 +34,6 @@ pub record Formed (form : Form) : Type 0 where
   pub number : form .number ≤ greatestWord
   pub base : form .base ≤ firstSensorCall
 
--- port p is a sensor; its reading
-abbrev pub isSensor : List ℤ → ℕ → Bool
-isSensor ports p = eqb (fieldAt portWidth 0 ports p) sensor
-
+-- the reading of a sensor
 abbrev pub reading : ℕ → Words
 reading p = three (callSensor p)

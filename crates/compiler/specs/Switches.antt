@@ -5,11 +5,11 @@ use mathlib.Core.List.{List, [], _∷_}
 use lib.IntN.{ℤ}
 use lib.ListN.{getD}
 use Rattle.cells.specs.Cell.{namedAt, greatestWord}
-use Rattle.program.specs.Tables.{switchWidth, rowFrequency}
+use Rattle.program.specs.Tables.{rowFrequency, switchWidth, switchTarget, switchDriver}
 use Rattle.program.specs.Program.{Switch}
 use Rattle.code.specs.Op.{Op, jump}
 use Rattle.code.specs.Listing.{callDriver}
-use Rattle.compiler.specs.Rows.{switchTarget, switchDriver, dueAt}
+use Rattle.compiler.specs.Rows.{dueAt}
 use Rattle.compiler.specs.declared.rows.Instant.{Instant}
 
 -- the switch that row i says

@@ -22,12 +22,12 @@ use Rattle.program.proofs.Decoded.{mode-count}
 use Rattle.rules.specs.Shape.{badSlice}
 use Rattle.runs.specs.Windows.{windowCount, winSupplier, winMode, winFrom, winTo, inWindow, InWindow}
 use Rattle.runs.specs.Schedule.{scheduleWidth}
-use Rattle.runs.specs.Round.{Choice, Good, Fair, worstCase, Break, none, outside, late, worstBreak}
+use Rattle.runs.specs.Round.{Choice, Good, Fair, worstCase, Break, none, outside, late, worstBreak, nothing}
 use Rattle.runs.proofs.Windows.{in-window-says}
 use Rattle.runs.proofs.First.{judge-exactly}
 use Rattle.runs.proofs.Exactly.{no-break-exactly}
 use Rattle.suppliers.specs.Windows.{windowsVerdict}
-use Rattle.suppliers.specs.Supplier.{Asked, supplierOf, courseOf, nothing, answerFrom, judged, partVerdict, supplierVerdict}
+use Rattle.suppliers.specs.Supplier.{Asked, supplierOf, courseOf, answerFrom, judged, partVerdict, supplierVerdict}
 use Rattle.suppliers.specs.declared.Answer.{Answer}
 use Rattle.suppliers.proofs.Modes.{answerOf, AllGood, BreaksFirst, answer-good, answer-break}
 use Rattle.suppliers.proofs.Accepted.{part-some-time, part-after}

@@ -11,9 +11,9 @@ use lib.ListN.{length}
 use Rattle.theory.specs.Lists.{those}
 use Rattle.program.specs.Tables.{Tables, modeCount, taskSupplier, taskWorst}
 use Rattle.runs.specs.Windows.{windowCount, winSupplier, winMode, winFrom, winTo}
-use Rattle.runs.specs.Round.{Choice, Good, Fair, worstCase, Break, outside, late, FirstBreak}
+use Rattle.runs.specs.Round.{Choice, Good, Fair, worstCase, Break, outside, late, FirstBreak, nothing}
 use Rattle.suppliers.specs.Windows.{windowsVerdict}
-use Rattle.suppliers.specs.Supplier.{Asked, supplierOf, courseOf, nothing, windowedOf, partVerdict, supplierVerdict}
+use Rattle.suppliers.specs.Supplier.{Asked, supplierOf, courseOf, windowedOf, partVerdict, supplierVerdict}
 
 -- Program and windows accepted, the part well-formed (1 to 13 do not apply): accepted exactly when, in every mode, reached or
 -- not, and for every choice of an execution time from 1 to the worst case for every release, every tick in which the supplier

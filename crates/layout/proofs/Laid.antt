@@ -24,13 +24,9 @@ use Rattle.code.proofs.Length.{listing-length}
 use Rattle.layout.specs.declared.addresses.Layout.{Layout}
 use Rattle.layout.specs.Counts.{countsIn, countsOf, beforeEntry, sizeOf, mostMode, mostCode}
 use Rattle.layout.specs.Few.{Few}
-use Rattle.layout.specs.Layout.{unitCounts, sizeIn, laidMore, LaidOut, Small}
+use Rattle.layout.specs.Layout.{unitCounts, sizeIn, startIn, laidMore, LaidOut, Small}
 use Rattle.layout.proofs.Limits.{counts-sized, mode-most}
 use Rattle.layout.proofs.Sizes.{counts-due}
-
--- where mode m begins, behind the jump at address 0
-abbrev pub startIn : Tables → ℕ → ℕ → ℕ
-startIn T sensors m = 1 + sum (sizeIn T sensors) m
 
 -- where its unit 0 is entered
 abbrev pub entryIn : Tables → ℕ → ℕ → ℕ
@@ -119,7 +115,7 @@ module _ (T : Tables) (sensors : ℕ) where
         ∙ ap (λ (M : Mode). sum (blockSize P (mode P m)) (M .units)) (sym (mode-row T m h))
 
     -- where a declared mode begins, and where the last one ends
-    start-mode : (m : ℕ) → m ≤ modeCount T → startIn T sensors m ≡ modeAddress P m
+    pub start-mode : (m : ℕ) → m ≤ modeCount T → startIn T sensors m ≡ modeAddress P m
     start-mode m h =
         ap (λ (n : ℕ). 1 + n) (sum-same (sizeIn T sensors) (λ i. modeSize P (mode P i)) m (λ i b. size-mode i (omega arith)))
 

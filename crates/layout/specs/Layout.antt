@@ -21,6 +21,10 @@ unitCounts T sensors m k = countsIn (T .invocations) (T .updates) (T .switches) 
 abbrev pub sizeIn : Tables → ℕ → ℕ → ℕ
 sizeIn T sensors m = sum (λ k. sizeOf (unitCounts T sensors m k)) (units T m)
 
+-- where mode m begins, behind the jump at address 0
+abbrev pub startIn : Tables → ℕ → ℕ → ℕ
+startIn T sensors m = 1 + sum (sizeIn T sensors) m
+
 -- mode m begins where the modes before it end
 unfoldable pub laidMore : Tables → ℕ → ℕ → Layout → Layout
 laidMore T sensors m before =

@@ -49,9 +49,13 @@ isSource T d p = any (copiesFrom T d p) (copyCount T) || (eqb (guardKind T d) ki
 unfoldable pub isDestination : Tables → ℕ → ℕ → Bool
 isDestination T d p = any (copiesTo T d p) (copyCount T)
 
--- of the rows of these ports that are sensors, what stands in each, in table order
+-- row p of these ports is a sensor
+abbrev pub isSensor : List ℤ → ℕ → Bool
+isSensor ports p = eqb (fieldAt portWidth 0 ports p) sensor
+
+-- of the rows that are, what stands in each, in table order
 abbrev pub sensorRows : {A : Type 0} → List ℤ → (ℕ → A) → List A
-sensorRows ports row = those (λ p. eqb (fieldAt portWidth 0 ports p) sensor) row (rowsIn portWidth ports) 0
+sensorRows ports row = those (isSensor ports) row (rowsIn portWidth ports) 0
 
 -- The same as claims.
 abbrev pub OfKind : Tables → ℕ → ℕ → Type 0

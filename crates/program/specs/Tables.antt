@@ -63,14 +63,21 @@ output = 3
 abbrev pub taskWidth : ℕ
 taskWidth = 2
 
+-- its columns: supplier, worst-case time
+abbrev pub taskOwner : ℕ
+taskOwner = 0
+
+abbrev pub taskTime : ℕ
+taskTime = 1
+
 abbrev pub taskCount : Tables → ℕ
 taskCount T = rowsIn taskWidth (T .tasks)
 
 abbrev pub taskSupplier : Tables → ℕ → ℕ
-taskSupplier T = fieldAt taskWidth 0 (T .tasks)
+taskSupplier T = fieldAt taskWidth taskOwner (T .tasks)
 
 abbrev pub taskWorst : Tables → ℕ → ℕ
-taskWorst T = fieldAt taskWidth 1 (T .tasks)
+taskWorst T = fieldAt taskWidth taskTime (T .tasks)
 
 -- task ports: task, port
 abbrev pub taskPortWidth : ℕ
@@ -162,6 +169,22 @@ rowMode width = namedAt width modeColumn
 abbrev pub rowFrequency : ℕ → List ℤ → ℕ → ℕ
 rowFrequency width = fieldAt width frequencyColumn
 
+-- behind these, what a row names: a task, a driver, a target mode
+abbrev pub invocationTask : ℕ
+invocationTask = 2
+
+abbrev pub invocationDriver : ℕ
+invocationDriver = 3
+
+abbrev pub updateDriver : ℕ
+updateDriver = 2
+
+abbrev pub switchTarget : ℕ
+switchTarget = 2
+
+abbrev pub switchDriver : ℕ
+switchDriver = 3
+
 -- invocations: mode, frequency, task, driver
 abbrev pub invocationWidth : ℕ
 invocationWidth = 4
@@ -176,10 +199,10 @@ abbrev pub invFrequency : Tables → ℕ → ℕ
 invFrequency T = rowFrequency invocationWidth (T .invocations)
 
 abbrev pub invTask : Tables → ℕ → ℕ
-invTask T = namedAt invocationWidth 2 (T .invocations)
+invTask T = namedAt invocationWidth invocationTask (T .invocations)
 
 abbrev pub invDriver : Tables → ℕ → ℕ
-invDriver T = namedAt invocationWidth 3 (T .invocations)
+invDriver T = namedAt invocationWidth invocationDriver (T .invocations)
 
 -- updates: mode, frequency, driver
 abbrev pub updateWidth : ℕ
@@ -195,7 +218,7 @@ abbrev pub updFrequency : Tables → ℕ → ℕ
 updFrequency T = rowFrequency updateWidth (T .updates)
 
 abbrev pub updDriver : Tables → ℕ → ℕ
-updDriver T = namedAt updateWidth 2 (T .updates)
+updDriver T = namedAt updateWidth updateDriver (T .updates)
 
 -- switches: mode, frequency, target mode, driver
 abbrev pub switchWidth : ℕ
@@ -211,10 +234,10 @@ abbrev pub swFrequency : Tables → ℕ → ℕ
 swFrequency T = rowFrequency switchWidth (T .switches)
 
 abbrev pub swTarget : Tables → ℕ → ℕ
-swTarget T = namedAt switchWidth 2 (T .switches)
+swTarget T = namedAt switchWidth switchTarget (T .switches)
 
 abbrev pub swDriver : Tables → ℕ → ℕ
-swDriver T = namedAt switchWidth 3 (T .switches)
+swDriver T = namedAt switchWidth switchDriver (T .switches)
 
 -- the start mode, a number beside them
 abbrev pub startMode : Tables → ℕ

@@ -1,4 +1,5 @@
--- The laws of runs: a shorter run is dominated, the worst case decides, the judge gives the first break, windows.
+-- The laws of runs: a shorter run is dominated, the worst case decides, the judge gives the first break, windows; and the code's
+-- walk over blocks, rows, windows and ticks.
 pub mod Tick
 pub mod Members
 pub mod Dominated
@@ -7,3 +8,8 @@ pub mod First
 pub mod Same
 pub mod Exactly
 pub mod Windows
+pub mod Blocks
+pub mod Rows
+pub mod Turns
+pub mod Ends
+pub mod Watching

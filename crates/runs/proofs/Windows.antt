@@ -11,7 +11,7 @@ use Rattle.theory.proofs.Search.{any-says}
 use Rattle.runs.specs.Windows.{windowCount, winSupplier, winMode, winFrom, winTo, windowHas, inWindow, shareTick, Has, InWindow}
 
 -- row i is a window of supplier s that has the tick
-window-has-says : (W : List ℤ) (s m t i : ℕ) → Says (windowHas W s m t i) ((winSupplier W i ≡ s) × Has W i m t)
+pub window-has-says : (W : List ℤ) (s m t i : ℕ) → Says (windowHas W s m t i) ((winSupplier W i ≡ s) × Has W i m t)
 unfolding windowHas
 window-has-says W s m t i =
     says-as (says-eq (winSupplier W i) s and says-eq (winMode W i) m and says-le (winFrom W i) t and says-lt t (winTo W i))

@@ -5,9 +5,11 @@ use mathlib.Core.Path.{_≡_}
 use mathlib.Core.Bool.{Bool, true, false, not, _&&_}
 use mathlib.Core.List.{List, [], _∷_}
 use lib.Dec.{leb}
-use lib.ListN.{set}
+use lib.ListN.{set, replicate}
 use Rattle.theory.specs.Lists.{some, member}
+use Rattle.cells.specs.Limits.{maxTasks}
 use Rattle.runs.specs.Tick.{Row, leftOf, runs, Place, doing, tick}
+use Rattle.runs.specs.declared.unit.Watched.{Watched}
 
 -- what one supplier does in one mode: ticks of a unit and units of the round; by unit its block, the jobs released at the
 -- unit's start and those whose termination instant is its end; by job the worst-case time; by tick of the round its windows
@@ -82,6 +84,15 @@ watched window block (suc n) e t s = elim (runs (doing block e s) && not (window
   | true ↦ left-at t
   | false ↦ watched window block n (suc e) (suc t) (tick block e s)
 ]
+
+-- nothing is running
+abbrev pub nothing : List ℕ
+nothing = replicate maxTasks 0
+
+-- the same as the code hands it on
+abbrev pub toldTicks : Ticked → Watched
+toldTicks (ended left) = record { outside = false; tick = 0; left = left }
+toldTicks (left-at t) = record { outside = true; tick = t; left = nothing }
 
 -- some of these jobs is unfinished
 abbrev pub unfinished : List ℕ → List ℕ → Bool

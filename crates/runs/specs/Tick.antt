@@ -5,6 +5,7 @@ use mathlib.Core.Bool.{Bool, true, false, _||_}
 use mathlib.Core.List.{List, [], _∷_}
 use lib.Dec.{leb}
 use lib.ListN.{getD, set, drop}
+use Rattle.runs.specs.declared.turn.Turn.{Turn}
 
 pub data Kind : Type 0 where
   dispatch idle : Kind
@@ -69,3 +70,18 @@ doing block elapsed s = act (drop (moved block elapsed s) block)
 
 abbrev pub tick : List Row → ℕ → Place → Place
 tick block elapsed s = record { position = moved block elapsed s; left = after (doing block elapsed s) (s .left) }
+
+-- the same as the code hands it on: the new position, whether a job runs, and which (0 where none does)
+abbrev pub jobOf : Act → ℕ
+jobOf rest = 0
+jobOf (run j) = j
+
+abbrev pub turnOf : ℕ → Act → Turn
+turnOf position a = record { position = position; runs = runs a; job = record { 0 = jobOf a } }
+
+abbrev pub turn : List Row → ℕ → Place → Turn
+turn block elapsed s = turnOf (moved block elapsed s) (doing block elapsed s)
+
+-- the remaining times after it
+unfoldable pub afterTurn : Turn → List ℕ → List ℕ
+afterTurn t left = elim (t .runs) [ true ↦ set left (t .job .0) (leftOf left (t .job .0) - 1) | false ↦ left ]

@@ -2,11 +2,11 @@
 -- Assumes nothing.
 use Prim.Native.Nat.{ℕ, _≤_, _<_}
 use mathlib.Core.Path.{_≡_}
-use mathlib.Core.Bool.{Bool, _&&_}
+use mathlib.Core.Bool.{Bool, true, false, _&&_}
 use mathlib.Core.List.{List}
 use lib.Dec.{eqb, ltb, leb}
 use lib.IntN.{ℤ}
-use Rattle.theory.specs.Search.{any}
+use Rattle.theory.specs.Search.{any, first}
 use Rattle.cells.specs.Cell.{rowsIn, fieldAt, namedAt}
 
 abbrev pub windowWidth : ℕ
@@ -34,6 +34,14 @@ windowHas W s m t i = eqb (winSupplier W i) s && eqb (winMode W i) m && leb (win
 -- tick t of the round of mode m lies in a window of supplier s
 unfoldable pub inWindow : List ℤ → ℕ → ℕ → ℕ → Bool
 inWindow W s m t = any (windowHas W s m t) (windowCount W)
+
+-- where the first window that has the tick ends; 0 where none has it
+unfoldable pub windowEnd : List ℤ → ℕ → ℕ → ℕ → ℕ
+windowEnd W s m t = elim (inWindow W s m t) [ true ↦ winTo W (first (windowHas W s m t) (windowCount W)) | false ↦ 0 ]
+
+-- up to which tick the supplier may run: as far as is known, and where it runs beyond that, as far as the window that has the tick
+unfoldable pub openUntil : List ℤ → ℕ → ℕ → ℕ → ℕ → Bool → ℕ
+openUntil W s m t until running = elim (running && leb until t) [ true ↦ windowEnd W s m t | false ↦ until ]
 
 -- rows i and j are of one mode and share a tick (no window is empty)
 unfoldable pub shareTick : List ℤ → ℕ → ℕ → Bool

@@ -1,6 +1,8 @@
--- Numbers 12 and 13 are exact: each test bars its claim. The answer over the modes is that of the first whose run breaks.
+-- Numbers 12 and 13 are exact: each test bars its claim, and the table of delays says those of the listing.
+-- The answer over the modes is that of the first whose run breaks.
 pub mod Windows
 pub mod Schedule
+pub mod Delays
 pub mod Modes
 pub mod Accepted
 pub mod Tasks

@@ -75,8 +75,7 @@ module _ (T : Tables) (S : List ℤ) where
       let o = all-ordered (scheduleCount S) (λ i l. g i l .1) in
       record {
         each = λ i l. g i l .0;
-        by-supplier = λ j i l m. o j i l m .0;
-        by-address = λ j i l m e. o j i l m .1 (sym e);
+        sorted = record { by-supplier = λ j i l m. o j i l m .0; by-address = λ j i l m e. o j i l m .1 (sym e) };
       })
       (λ r i l. (r .each i l, above r i l))
     where
@@ -84,7 +83,7 @@ module _ (T : Tables) (S : List ℤ) where
       above r zero l = (omega arith, λ e. omega arith)
       above r (suc i) l =
           let e : i ≡ suc i - 1 = omega arith in
-          subst (λ k. Ordered k (suc i)) e (r .by-supplier i (suc i) (omega arith) l, λ q. r .by-address i (suc i) (omega arith) l (sym q))
+          subst (λ k. Ordered k (suc i)) e (r .sorted .by-supplier i (suc i) (omega arith) l, λ q. r .sorted .by-address i (suc i) (omega arith) l (sym q))
 
   -- in one supplier's part it bars rows of that supplier
   pub part-bars : (s : ℕ) → Bars (partBad T S s) (Part T S s)

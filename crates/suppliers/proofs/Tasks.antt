@@ -25,10 +25,10 @@ use Rattle.code.specs.Listing.{callDriver, blockAddress, entryAddress, futureAd
 use Rattle.code.specs.Compile.{listingOf, delayAt}
 use Rattle.runs.specs.Schedule.{scheduleCount, rowSupplier, rowAddress, rowKind, rowTask, rowTimeout, kindDispatch}
 use Rattle.runs.specs.Windows.{inWindow}
-use Rattle.runs.specs.Round.{Course, worstCase, worstBreak}
+use Rattle.runs.specs.Round.{Course, worstCase, worstBreak, nothing}
 use Rattle.runs.proofs.Same.{SameCourse, judge-same}
 use Rattle.suppliers.specs.Schedule.{inDelay, dispatchFits, idleFits, precedes, rowWrong, rowsBad, partBad}
-use Rattle.suppliers.specs.Supplier.{ownTasks, course, nothing}
+use Rattle.suppliers.specs.Supplier.{ownTasks, course}
 
 -- the same tables with other tasks
 abbrev pub withTasks : Tables → List ℤ → Tables

@@ -12,16 +12,25 @@ use lib.IntN.{ℤ}
 use lib.ListN.{length}
 use Rattle.theory.specs.Search.{any}
 use Rattle.theory.specs.Lists.{those}
+use Rattle.cells.specs.Cell.{wordAt}
 use Rattle.cells.specs.Limits.{suppliers, maxPart}
 use Rattle.program.specs.Tables.{Tables, taskCount, taskSupplier}
 use Rattle.code.specs.Op.{Op}
 use Rattle.code.specs.Compile.{listingOf, delayAt}
-use Rattle.runs.specs.Schedule.{scheduleCount, rowSupplier, rowAddress, rowKind, rowTask, rowTimeout, kindDispatch, kindIdle}
+use Rattle.runs.specs.Schedule.{scheduleCount, rowSupplier, rowAddress, rowKind, rowTask, rowTimeout, kindDispatch, kindIdle, Sorted}
 
 -- the timeout is within the delay, if there is one
 abbrev pub inDelay : Option ℕ → ℕ → Bool
 inDelay none timeout = false
 inDelay (some d) timeout = leb timeout d
+
+-- the same in a table of delays that has 0 where there is none
+unfoldable pub delayFits : List ℕ → ℕ → ℕ → Bool
+delayFits delays a timeout = ltb 0 (wordAt delays a) && leb timeout (wordAt delays a)
+
+-- the table says just that of the listing
+abbrev pub Tabled : Tables → List ℕ → Type 0
+Tabled T delays = (a timeout : ℕ) → delayFits delays a timeout ≡ inDelay (delayAt (listingOf T) a) timeout
 
 -- a dispatch of a task of the row's supplier, or an idle row, which has task 0
 unfoldable pub dispatchFits : Tables → List ℤ → ℕ → Bool
@@ -78,8 +87,7 @@ pub record RowFits (T : Tables) (S : List ℤ) (i : ℕ) : Type 0 where
 
 pub record Rows (T : Tables) (S : List ℤ) : Type 0 where
   pub each : (i : ℕ) → i < scheduleCount S → RowFits T S i
-  pub by-supplier : (j i : ℕ) → j < i → i < scheduleCount S → rowSupplier S j ≤ rowSupplier S i
-  pub by-address : (j i : ℕ) → j < i → i < scheduleCount S → rowSupplier S j ≡ rowSupplier S i → rowAddress S j ≤ rowAddress S i
+  pub sorted : Sorted S
 
 pub record Part (T : Tables) (S : List ℤ) (s : ℕ) : Type 0 where
   pub rows : Rows T S

@@ -5,11 +5,11 @@ use mathlib.Core.Bool.{Bool, _||_}
 use mathlib.Core.List.{List, [], _∷_}
 use lib.Dec.{eqb}
 use lib.IntN.{ℤ}
-use lib.ListN.{length, replicate}
+use lib.ListN.{length}
 use Rattle.theory.specs.Lists.{keep}
 use Rattle.theory.specs.Verdict.{Refusal, verdict, Rule}
 use Rattle.cells.specs.Cell.{indexOf}
-use Rattle.cells.specs.Limits.{maxTasks, maxWindows, maxPart}
+use Rattle.cells.specs.Limits.{maxWindows, maxPart}
 use Rattle.program.specs.Tables.{Tables}
 use Rattle.program.specs.Program.{Program, programOf, task, mode, ticksOf, nextUnit, dueTasks}
 use Rattle.rules.specs.Shape.{badSlice, shapeBad, WholeRows, Shaped}
@@ -17,7 +17,7 @@ use Rattle.code.specs.Listing.{futureAddress}
 use Rattle.code.specs.Compile.{lentRefusals, lentRules}
 use Rattle.runs.specs.Windows.{windowWidth, inWindow}
 use Rattle.runs.specs.Schedule.{scheduleWidth, blockOf}
-use Rattle.runs.specs.Round.{Course, Break, none, outside, late, worstBreak}
+use Rattle.runs.specs.Round.{Course, Break, none, outside, late, worstBreak, nothing}
 use Rattle.suppliers.specs.Windows.{Windowed, windowsBad, Windows}
 use Rattle.suppliers.specs.Schedule.{partBad, Part}
 use Rattle.suppliers.specs.declared.Answer.{Answer}
@@ -47,10 +47,6 @@ course P W S s m = record {
   worst = λ t. task P t .worst;
   window = inWindow W s m;
 }
-
--- nothing is running
-abbrev pub nothing : List ℕ
-nothing = replicate maxTasks 0
 
 abbrev pub courseOf : Asked → ℕ → Course
 courseOf L m = course (programOf (L .tables)) (L .windows) (L .part) (supplierOf L) m

@@ -227,3 +227,50 @@ map-those {A} {B} f p row (suc n) i = go (p i) (map-those f p row n (i + 1))
 -- what stands in a row does not change how many pass
 pub those-count : {A : Type 0} (p : ℕ → Bool) (row : ℕ → A) (n i : ℕ) → length (those p row n i) ≡ length (those p (λ j. j) n i)
 those-count p row n i = ap length (sym (map-those row p (λ j. j) n i)) ∙ length-map (those p (λ j. j) n i) row
+
+module _ {A : Type 0} (p : ℕ → Bool) (row : ℕ → A) where
+  -- those of n rows, and those of the m rows after them
+  pub those-split : (n m i : ℕ) → those p row (n + m) i ≡ those p row n i ++ those p row m (i + n)
+  those-split zero m i =
+      let z : 0 + m ≡ m = omega arith in
+      let y : i ≡ i + 0 = omega arith in
+      ap (λ (k : ℕ). those p row k i) z ∙ ap (those p row m) y
+  those-split (suc n) m i =
+      let z : suc n + m ≡ suc (n + m) = omega arith in
+      let y : i + 1 + n ≡ i + suc n = omega arith in
+      ap (λ (k : ℕ). those p row k i) z
+      ∙ go (p i) (those-split n m (i + 1) ∙ ap (λ (k : ℕ). those p row n (i + 1) ++ those p row m k) y)
+    where
+      go : (b : Bool) → those p row (n + m) (i + 1) ≡ those p row n (i + 1) ++ those p row m (i + suc n)
+          → _≡_ {A = List A} (elim b [ true ↦ row i ∷ those p row (n + m) (i + 1) | false ↦ those p row (n + m) (i + 1) ])
+          (elim b [ true ↦ row i ∷ those p row n (i + 1) | false ↦ those p row n (i + 1) ] ++ those p row m (i + suc n))
+      go true e = ap (λ (l : List A). row i ∷ l) e
+      go false e = e
+
+  -- where no row passes, none
+  pub those-none : (n i₀ : ℕ) → ((i : ℕ) → i₀ ≤ i → i < i₀ + n → p i ≡ false) → those p row n i₀ ≡ []
+  those-none zero i₀ h = refl
+  those-none (suc n) i₀ h =
+      rw (h i₀ (omega arith) (omega arith), those) (those-none n (i₀ + 1) (λ i l u. h i (omega arith) (omega arith)))
+
+  -- where all pass, all
+  pub those-each : (n i₀ : ℕ) → ((i : ℕ) → i₀ ≤ i → i < i₀ + n → p i ≡ true) → those p row n i₀ ≡ each row n i₀
+  those-each zero i₀ h = refl
+  those-each (suc n) i₀ h =
+      rw (h i₀ (omega arith) (omega arith), those)
+      (ap (λ (l : List A). row i₀ ∷ l) (those-each n (i₀ + 1) (λ i l u. h i (omega arith) (omega arith))))
+
+-- as many rows from another place on, where each is the same
+pub each-same : {A : Type 0} (f g : ℕ → A) (n i j : ℕ) → ((k : ℕ) → k < n → f (i + k) ≡ g (j + k)) → each f n i ≡ each g n j
+each-same f g zero i j h = refl
+each-same {A} f g (suc n) i j h =
+    let x : i + 0 ≡ i = omega arith in
+    let y : j + 0 ≡ j = omega arith in
+    ap (λ (r : A). r ∷ each f n (i + 1)) (ap f (sym x) ∙ h 0 (omega arith) ∙ ap g y)
+    ∙ ap (λ (l : List A). g j ∷ l) (each-same f g n (i + 1) (j + 1) next)
+  where
+    next : (k : ℕ) → k < n → f (i + 1 + k) ≡ g (j + 1 + k)
+    next k l =
+        let x : i + suc k ≡ i + 1 + k = omega arith in
+        let y : j + suc k ≡ j + 1 + k = omega arith in
+        ap f (sym x) ∙ h (suc k) (omega arith) ∙ ap g y

@@ -165,6 +165,31 @@ module _ (p : ℕ → Bool) where
         no = λ e (k, l, h). s k .no (none-at n k e l) h;
       }
 
+-- of n numbers from i on, r is the lowest that passes, or i + n
+pub record Finds (p : ℕ → Bool) (n i r : ℕ) : Type 0 where
+  pub low : i ≤ r
+  pub high : r ≤ i + n
+  pub least : (k : ℕ) → i ≤ k → k < r → p k ≡ false
+  pub has : r < i + n → p r ≡ true
+
+-- the search finds it
+pub finds : (p : ℕ → Bool) (n i : ℕ) → Finds p n i (firstFrom p n i)
+unfolding firstFrom
+finds p zero i =
+    record { low = omega arith; high = omega arith; least = λ k l u. absurd (omega arith); has = λ l. absurd (omega arith) }
+finds p (suc n) i = go (p i) refl (finds p n (i + 1))
+  where
+    go : (b : Bool) → p i ≡ b → Finds p n (i + 1) (firstFrom p n (i + 1))
+        → Finds p (suc n) i (elim b [ true ↦ i | false ↦ firstFrom p n (i + 1) ])
+    go true e h = record { low = omega arith; high = omega arith; least = λ k l u. absurd (omega arith); has = λ l. e }
+    go false e h =
+        record {
+          low = omega (arith, h .low);
+          high = omega (arith, h .high);
+          least = λ k l u. ⊎-elim (λ q. subst (λ (j : ℕ). p j ≡ false) q e) (λ q. h .least k (omega arith) u) (eq-or-lt-of-le l);
+          has = λ l. h .has (omega arith);
+        }
+
 -- a test of each row that is bad, together, bars the claim of every row
 pub bars-below : {p : ℕ → Bool} {G : ℕ → Type 0} (n : ℕ) → ((k : ℕ) → k < n → Bars (p k) (G k)) → Bars (any p n) ((k : ℕ) → k < n → G k)
 bars-below {p} n s =

@@ -1,6 +1,6 @@
 -- The verdict is the first number that applies: n exactly where the rule of number n is broken and no earlier one is.
 -- Assumes that each refusal's test bars the rule of its number where the earlier rules hold (`Barred`), and that no number is 0.
-use Prim.Native.Nat.{ℕ, zero, suc}
+use Prim.Native.Nat.{ℕ, zero, suc, _<_}
 use mathlib.Core.Path.{_≡_, refl, sym, ap, _∙_}
 use mathlib.Core.Bool.{Bool, true, false}
 use mathlib.Core.List.{List, [], _∷_, _++_, map}
@@ -13,6 +13,11 @@ use Rattle.theory.specs.Verdict.{orElse, Refusal, within, verdict, Rule,
 abbrev pub after : ℕ → ℕ → ℕ
 after zero n = n
 after (suc m) n = suc m
+
+-- a number that was given stays
+pub after-given : (m n : ℕ) → 0 < m → after m n ≡ m
+after-given zero n l = absurd (omega arith)
+after-given (suc m) n l = refl
 
 -- there is neither
 pub after-none : (m n : ℕ) → after m n ≡ 0 → (m ≡ 0) × (n ≡ 0)

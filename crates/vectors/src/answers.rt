@@ -2,7 +2,9 @@
 use crate::compiles;
 use crate::kind;
 use crate::out;
+use crate::supplier_cases;
 use crate::verdicts;
+use crate::window_cases;
 use cases::numbers;
 use cases::stream;
 use cases::stream::Reader;
@@ -22,6 +24,12 @@ fn case(kind: &[u8], r: Reader, buffer: &mut [u8]) -> Answer {
     }
     if check::same(kind, b"compile") {
         return compiles::case(r, buffer);
+    }
+    if check::same(kind, b"windows") {
+        return window_cases::case(r, buffer);
+    }
+    if check::same(kind, b"supplier") {
+        return supplier_cases::case(r, buffer);
     }
     Answer {
         reader: r,

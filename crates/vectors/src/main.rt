@@ -3,7 +3,9 @@ mod answers;
 mod compiles;
 mod kind;
 mod out;
+mod supplier_cases;
 mod verdicts;
+mod window_cases;
 
 use libc::STDOUT_FILENO;
 

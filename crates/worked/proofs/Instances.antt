@@ -23,9 +23,9 @@ use Rattle.giotto.specs.Instant.{results}
 use Rattle.giotto.specs.Execution.{execution}
 use Rattle.giotto.specs.Successor.{Successor}
 use Rattle.giotto.proofs.Execution.{execution-succeeds}
-use Rattle.runs.specs.Round.{Choice, Fair, Good}
+use Rattle.runs.specs.Round.{Choice, Fair, Good, nothing}
 use Rattle.suppliers.specs.Windows.{windowsVerdict}
-use Rattle.suppliers.specs.Supplier.{Asked, courseOf, nothing, windowedOf, partVerdict, supplierVerdict}
+use Rattle.suppliers.specs.Supplier.{Asked, courseOf, windowedOf, partVerdict, supplierVerdict}
 use Rattle.demands.specs.Supplier.{ownWindows}
 use Rattle.demands.specs.Supplied.{supplied}
 use Rattle.demands.specs.Composed as composed

@@ -3,8 +3,9 @@ use mathlib.Core.Path.{sym, ap, _∙_}
 use mathlib.Core.List.{List}
 use borrow.Author.Needs.{needs}
 use borrow.Author.Tests.{eq-eqb, ne-eqb}
+use Rattle.program.specs.Sets.{isSensor}
 use Rattle.compiler.specs.Written.{Words, written, writes}
-use Rattle.compiler.specs.Rows.{isSensor, reading}
+use Rattle.compiler.specs.Rows.{reading}
 use Rattle.compiler.proofs.Left.{one-yes, one-no}
 use Rattle.compiler.proofs.sensors.sensor_row.Statement.{statement}
 use Rattle.compiler.proofs.sensors.sensor_row.Tie as tie

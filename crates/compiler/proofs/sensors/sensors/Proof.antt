@@ -9,7 +9,8 @@ use Rattle.theory.proofs.Lists.{those-end, those-few}
 use Rattle.cells.specs.Cell.{rowsIn}
 use Rattle.program.specs.Tables.{portWidth}
 use Rattle.compiler.specs.Written.{Words, written}
-use Rattle.compiler.specs.Rows.{isSensor, reading}
+use Rattle.program.specs.Sets.{isSensor}
+use Rattle.compiler.specs.Rows.{reading}
 use Rattle.compiler.proofs.Left.{Left, left-all, left-at, left-length, left-more, left-none, those-all, those-next}
 use Rattle.compiler.proofs.sensors.sensors.Statement.{statement}
 use Rattle.compiler.proofs.sensors.sensors.Tie as tie

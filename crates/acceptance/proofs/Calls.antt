@@ -1,0 +1,90 @@
+-- The numbers of the two calls: each its own 1, then what both ask, then a supplier's 13 and its run.
+-- Assumes nothing; of what follows an accepted part, that its number is 0.
+use Prim.Native.Nat.{ℕ, zero, suc, _<_}
+use mathlib.Core.Path.{_≡_, refl, sym, ap, _∙_}
+use mathlib.Core.Bool.{Bool, true, false}
+use mathlib.Core.List.{List, [], _∷_, _++_, map}
+use native.Mathlib.Omega.{arith}
+use lib.ListN.{length}
+use borrow.Author.Tests.{ltb-false}
+use Rattle.theory.specs.Verdict.{Refusal, orElse, within, verdict}
+use Rattle.theory.proofs.Conditions.{or-else-yes, or-else-no}
+use Rattle.theory.proofs.Verdict.{after, after-given, after-none, verdict-clear, verdict-append, verdict-both, verdict-within}
+use Rattle.cells.specs.Limits.{maxCode}
+use Rattle.program.specs.Tables.{Tables}
+use Rattle.rules.specs.Shape.{shapeBad}
+use Rattle.rules.specs.Verdict.{tableRefusals, programVerdict}
+use Rattle.code.specs.Compile.{listingOf, codeLong, longRefusal, CodeFits}
+use Rattle.lent.specs.Tables.{lentVerdict}
+use Rattle.suppliers.specs.declared.Answer.{Answer}
+use Rattle.suppliers.specs.Windows.{Windowed, windowsBad, windowsShapeBad, windowRefusals, windowsVerdict}
+use Rattle.suppliers.specs.Schedule.{partBad}
+use Rattle.suppliers.specs.Supplier.{Asked, supplierOf, windowedOf, partShapeBad, ownRefusals, partVerdict, judged, supplierVerdict}
+use Rattle.acceptance.specs.Lent.{shapedVerdict, refusal}
+
+-- what a call asks of the tables after its own 1, and then of its own
+lent-first : {A : Type 0} (tables : A → Tables) (own : List (Refusal A)) (x : A)
+    → verdict (map (within tables) (tableRefusals ++ (longRefusal ∷ [])) ++ own) x ≡ after (lentVerdict (tables x)) (verdict own x)
+unfolding lentVerdict
+lent-first tables own x =
+    verdict-append (map (within tables) (tableRefusals ++ (longRefusal ∷ []))) own x (omega arith)
+    ∙ ap (λ (n : ℕ). after n (verdict own x)) (verdict-within tables (tableRefusals ++ (longRefusal ∷ [])) x)
+
+-- the windows verdict: 1, then what both calls ask
+pub windows-number : (L : Windowed) → windowsVerdict L ≡ orElse (windowsShapeBad L) 1 (shapedVerdict L)
+unfolding windowsVerdict shapedVerdict
+windows-number L = ap (orElse (windowsShapeBad L) 1) (lent-first (λ (L : Windowed). L .tables) windowRefusals L)
+
+-- 12 belongs to what both ask
+twelve : (n : ℕ) (b : Bool) (rest : ℕ) → after n (orElse b 12 rest) ≡ after (after n (orElse b 12 0)) rest
+twelve zero true rest = refl
+twelve zero false rest = refl
+twelve (suc n) b rest = refl
+
+-- the verdict on a part: 1, then what both ask, then 13
+part-number : (L : Asked)
+    → partVerdict L ≡ orElse (partShapeBad L) 1 (after (shapedVerdict (windowedOf L)) (orElse (partBad (L .tables) (L .part) (supplierOf L)) 13 0))
+unfolding partVerdict shapedVerdict
+part-number L =
+    ap (orElse (partShapeBad L) 1)
+    (lent-first (λ (L : Asked). L .tables) ownRefusals L
+    ∙ twelve (lentVerdict (L .tables)) (windowsBad (windowedOf L)) (orElse (partBad (L .tables) (L .part) (supplierOf L)) 13 0))
+
+-- tables and windows with their shape that no number up to 12 refuses: the program is accepted, and its code is within the limit
+pub shaped-accepted : (L : Windowed) → shapeBad (L .tables) ≡ false → shapedVerdict L ≡ 0 → (programVerdict (L .tables) ≡ 0) × CodeFits (L .tables)
+unfolding shapedVerdict lentVerdict programVerdict codeLong
+shaped-accepted L s e =
+    let T = L .tables in
+    let v = verdict-both tableRefusals (longRefusal ∷ []) T (omega arith) (after-none _ _ e .0) in
+    let f = verdict-clear (longRefusal ∷ []) T (omega arith) (v .1) .0 in
+    (or-else-no 1 (verdict tableRefusals T) s ∙ v .0, ltb-false maxCode (length (listingOf T)) f)
+
+module _ (L : Asked) where
+  -- the part, the windows or the tables do not have their shape
+  pub part-one : partShapeBad L ≡ true → partVerdict L ≡ 1
+  part-one e = part-number L ∙ or-else-yes 1 _ e
+
+  module _ (s : partShapeBad L ≡ false) where
+    -- a number that both calls ask for
+    pub part-given : (n : ℕ) → n ≡ shapedVerdict (windowedOf L) → 0 < n → partVerdict L ≡ n
+    part-given n e l =
+        let own = orElse (partBad (L .tables) (L .part) (supplierOf L)) 13 0 in
+        part-number L ∙ or-else-no 1 _ s ∙ ap (λ (k : ℕ). after k own) (sym e) ∙ after-given n own l
+
+    -- none of them: 13 decides
+    pub part-own : shapedVerdict (windowedOf L) ≡ 0 → partVerdict L ≡ orElse (partBad (L .tables) (L .part) (supplierOf L)) 13 0
+    part-own e =
+        part-number L ∙ or-else-no 1 _ s ∙ ap (λ (k : ℕ). after k (orElse (partBad (L .tables) (L .part) (supplierOf L)) 13 0)) e
+
+-- a number up to 13 is the answer's
+pub supplier-refused : (L : Asked) (n : ℕ) → partVerdict L ≡ n → (n ≡ 0 → ⊥) → refusal n ≡ supplierVerdict L
+unfolding supplierVerdict
+supplier-refused L zero e d = absurd (d refl)
+supplier-refused L (suc n) e d =
+    ap (λ (v : ℕ). elim v as (λ v. Answer) [ zero ↦ judged L | suc k ↦ refusal (suc k) ]) (sym e)
+
+-- without one the run decides
+pub supplier-judged : (L : Asked) → partVerdict L ≡ 0 → judged L ≡ supplierVerdict L
+unfolding supplierVerdict
+supplier-judged L e =
+    ap (λ (v : ℕ). elim v as (λ v. Answer) [ zero ↦ judged L | suc k ↦ refusal (suc k) ]) (sym e)

@@ -1,0 +1,2 @@
+-- What holds of the two calls' numbers.
+pub mod Calls

@@ -1,0 +1,213 @@
+-- `acceptance::supplier_verdict` meets its contract: 1, what both calls ask, 13, then the run of every mode as it was counted; the start
+-- mode and the supplier go through their bits once. Assumes nothing.
+use Prim.Native.Nat.{ℕ}
+use mathlib.Core.Path.{_≡_, refl, sym, ap, subst, _∙_}
+use mathlib.Core.Bool.{false, _||_}
+use native.Mathlib.Omega.{arith}
+use mir.Syntax.{w32}
+use mir.Val.{toZ, ofZ}
+use lib.IntN.{ℤ}
+use lib.ListN.{length}
+use borrow.Author.Needs.{needs}
+use Rattle.theory.proofs.Bools.{neither}
+use Rattle.theory.proofs.Conditions.{or-else-yes, or-else-no}
+use Rattle.cells.specs.Cell.{indexOf}
+use Rattle.cells.specs.Limits.{maxWindows, maxPart}
+use Rattle.cells.proofs.Ints.{back}
+use Rattle.program.specs.Tables.{Tables, tables, modeCount}
+use Rattle.program.proofs.Decoded.{sensors-rows}
+use Rattle.rules.specs.Shape.{badSlice, shapeBad}
+use Rattle.rules.specs.Verdict.{programVerdict}
+use Rattle.rules.proofs.Shape.{shape-bars, ports-few}
+use Rattle.rules.proofs.Accepted.{accepted-fields}
+use Rattle.code.specs.Compile.{CodeFits}
+use Rattle.layout.specs.Layout.{startIn}
+use Rattle.layout.proofs.Limits.{few-rows, few-modes, few-sensors}
+use Rattle.runs.specs.Windows.{windowWidth}
+use Rattle.runs.specs.Schedule.{scheduleWidth}
+use Rattle.runs.specs.Round.{worstBreak, nothing}
+use Rattle.suppliers.specs.Windows.{windowsShapeBad}
+use Rattle.suppliers.specs.Schedule.{partBad}
+use Rattle.suppliers.specs.Supplier.{Asked, supplierOf, windowedOf, answerFrom, partShapeBad, partVerdict}
+use Rattle.suppliers.proofs.Schedule.{part-bars}
+use Rattle.rounds.specs.Course.{courseOn}
+use Rattle.rounds.proofs.Courses.{judged-counted}
+use Rattle.acceptance.specs.Lent.{windowed, asked, shapedVerdict}
+use Rattle.acceptance.proofs.Calls.{shaped-accepted, part-one, part-given, part-own, supplier-refused, supplier-judged}
+use Rattle.acceptance.proofs.supplier_verdict.Statement.{statement}
+use Rattle.acceptance.proofs.supplier_verdict.Tie as tie
+
+-- the tables that were lent, with a start mode; all that was lent
+abbrev with-start : tie.Start → ℤ → Tables
+with-start c z =
+    tables (c .args .ports .now) (c .args .tasks .now) (c .args .task-ports .now) (c .args .drivers .now) (c .args .copies .now) (c .args .modes .now)
+    (c .args .mode-ports .now) (c .args .invocations .now) (c .args .updates .now) (c .args .switches .now) z
+
+abbrev lent : tie.Start → Asked
+lent c = asked (with-start c (c .args .start)) (c .args .windows .now) (c .args .part .now) (c .args .supplier)
+
+-- number 1, whatever the start mode
+shape : (c : tie.After-bad-slice) (z : ℤ) → (c .before .shape-bad .result || c .bad-slice .result)
+    ≡ (windowsShapeBad (windowed (with-start (c .before .before) z) (lent (c .before .before) .windows)) || badSlice scheduleWidth maxPart (lent (c .before .before) .part))
+shape c z = λ i. c .before .shape-bad .ensures z i || c .bad-slice .ensures i
+
+shape-told : (c : tie.After-bad-slice) → (c .before .shape-bad .result || c .bad-slice .result) ≡ partShapeBad (lent (c .before .before))
+unfolding partShapeBad windowsShapeBad
+shape-told c = shape c (c .before .before .args .start)
+
+-- it did not apply
+shaped : (c : tie.Else1) → partShapeBad (lent (c .before .before .before)) ≡ false
+shaped c = sym (shape-told (c .before)) ∙ c .if1 .left
+
+tables-shaped : (c : tie.Else1) (z : ℤ) → shapeBad (with-start (c .before .before .before) z) ≡ false
+unfolding windowsShapeBad
+tables-shaped c z =
+    let s = c .before .before .before in
+    let T = with-start s z in
+    neither (shapeBad T) (badSlice windowWidth maxWindows (lent s .windows))
+    (neither (windowsShapeBad (windowed T (lent s .windows))) (badSlice scheduleWidth maxPart (lent s .part)) (sym (shape (c .before) z) ∙ c .if1 .left) .0) .0
+
+-- the number that both calls ask for; the start mode came back through its bits
+told : (c : tie.After-shaped-verdict) → c .shaped-verdict .result ≡ shapedVerdict (windowedOf (lent (c .before .before .before .before)))
+told c =
+    let s = c .before .before .before .before in
+    subst (λ (z : ℤ). c .shaped-verdict .result ≡ shapedVerdict (windowed (with-start s z) (lent s .windows))) (back (s .args .start) (s .fits .start .sfits))
+    (c .shaped-verdict .ensures)
+
+-- it was 0: the program is accepted
+none : (c : tie.Else2) → shapedVerdict (windowedOf (lent (c .before .before .before .before .before))) ≡ 0
+none c = sym (told (c .before)) ∙ omega (arith, c .if2 .left)
+
+accepted : (c : tie.Else2) → (programVerdict (lent (c .before .before .before .before .before) .tables) ≡ 0)
+    × CodeFits (lent (c .before .before .before .before .before) .tables)
+accepted c =
+    let s = c .before .before .before .before .before in
+    shaped-accepted (windowedOf (lent s)) (tables-shaped (c .before .before) (s .args .start)) (none c)
+
+-- the supplier asked about
+own : (c : tie.After-index) → c .index .result ≡ supplierOf (lent (c .before .before .before .before .before .before))
+own c =
+    let s = c .before .before .before .before .before .before in
+    c .index .ensures ∙ ap indexOf (back (s .args .supplier) (s .fits .supplier .sfits))
+
+-- number 13
+part-told : (c : tie.After-refused)
+    → c .refused .result
+    ≡ partBad (lent (c .before .before .before .before .before .before .before) .tables) (lent (c .before .before .before .before .before .before .before) .part)
+    (supplierOf (lent (c .before .before .before .before .before .before .before)))
+part-told c =
+    let L = lent (c .before .before .before .before .before .before .before) in
+    let a = accepted (c .before .before) in
+    c .refused .ensures (L .tables) refl refl refl refl refl refl (a .0) (a .1) ∙ ap (partBad (L .tables) (L .part)) (own (c .before))
+
+-- it did not apply
+part-fits : (c : tie.Else3)
+    → partBad (lent (c .before .before .before .before .before .before .before .before) .tables) (lent (c .before .before .before .before .before .before .before .before) .part)
+    (supplierOf (lent (c .before .before .before .before .before .before .before .before)))
+    ≡ false
+part-fits c = sym (part-told (c .before)) ∙ c .if3 .left
+
+part-passed : (c : tie.Else3) → partVerdict (lent (c .before .before .before .before .before .before .before .before)) ≡ 0
+part-passed c =
+    let e = c .before .before .before in
+    part-own (lent (e .before .before .before .before .before)) (shaped (e .before .before)) (none e) ∙ or-else-no 13 0 (part-fits c)
+
+shape-bad-requires : tie.Need-shape-bad-requires
+shape-bad-requires c κs = search needs
+
+bad-slice-requires : tie.Need-bad-slice-requires
+bad-slice-requires c κs = search needs
+
+refusal-requires : tie.Need-refusal-requires
+refusal-requires c κs = search needs
+
+returns : tie.Need-returns
+returns c =
+    let L = lent (c .before .before .before .before) in
+    c .refusal .ensures ∙ supplier-refused L 1 (part-one L (sym (shape-told (c .before .before)) ∙ c .before .if1 .taken)) (λ z. omega arith)
+
+shaped-verdict-requires : tie.Need-shaped-verdict-requires
+shaped-verdict-requires c κs = tables-shaped c (toZ w32 (ofZ w32 (c .before .before .before .args .start)))
+
+refusal-requires-2 : tie.Need-refusal-requires-2
+refusal-requires-2 c κs = search needs
+
+returns-2 : tie.Need-returns-2
+returns-2 c =
+    let v = c .before .before in
+    let L = lent (v .before .before .before .before) in
+    c .refusal2 .ensures
+    ∙ supplier-refused L (v .shaped-verdict .result) (part-given L (shaped (v .before)) (v .shaped-verdict .result) (told v) (c .before .if2 .taken))
+    (λ z. omega (arith, c .before .if2 .taken))
+
+index-requires : tie.Need-index-requires
+index-requires c κs = search needs
+
+refused-requires : tie.Need-refused-requires
+refused-requires c κs =
+    let s = c .before .before .before .before .before .before in
+    let T = lent s .tables in
+    let h = tables-shaped (c .before .before .before) (s .args .start) in
+    (few-rows T h, (few-modes T h, ports-few T (shape-bars T .ok h)))
+
+refusal-requires-3 : tie.Need-refusal-requires-3
+refusal-requires-3 c κs = search needs
+
+returns-3 : tie.Need-returns-3
+returns-3 c =
+    let e = c .before .before .before .before in
+    let L = lent (e .before .before .before .before .before) in
+    c .refusal3 .ensures
+    ∙ supplier-refused L 13
+    (part-own L (shaped (e .before .before)) (none e) ∙ or-else-yes 13 0 (sym (part-told (c .before .before)) ∙ c .before .if3 .taken))
+    (λ z. omega arith)
+
+sensors-requires : tie.Need-sensors-requires
+sensors-requires c κs = search needs
+
+answer-requires : tie.Need-answer-requires
+answer-requires c κs =
+    let f = c .before in
+    let e = f .before .before .before in
+    let L = lent (e .before .before .before .before .before) in
+    let T = L .tables in
+    let h = tables-shaped (e .before .before) (T .start) in (
+      few-rows T h,
+      (
+        omega (arith, c .sensors .ensures, few-sensors T h),
+        (
+          λ m l. accepted-fields T (accepted e .0) .modes m l .1,
+          (few-modes T h, part-bars T (L .part) (supplierOf L) .ok (part-fits f) .rows .sorted),
+        ),
+      ),
+    )
+
+returns-4 : tie.Need-returns-4
+returns-4 c =
+    let n = c .before .sensors .result in
+    let f = c .before .before in
+    let L = lent (f .before .before .before .before .before .before .before .before) in
+    let T = L .tables in
+    c .answer .ensures T refl refl refl refl refl
+    ∙ ap (λ (s : ℕ). answerFrom (λ m. worstBreak (courseOn T (L .windows) (L .part) s n m (startIn T n m)) nothing) (modeCount T) 0) (own (f .before .before))
+    ∙ judged-counted L (part-passed f) n (c .before .sensors .ensures ∙ ap length (sym (sensors-rows T)))
+    ∙ supplier-judged L (part-passed f)
+
+pub supplier-verdict-spec : {M : Type 1} → statement M
+supplier-verdict-spec =
+    tie.close
+    (tie.spec
+    shape-bad-requires
+    bad-slice-requires
+    refusal-requires
+    returns
+    shaped-verdict-requires
+    refusal-requires-2
+    returns-2
+    index-requires
+    refused-requires
+    refusal-requires-3
+    returns-3
+    sensors-requires
+    answer-requires
+    returns-4)

@@ -1,0 +1,27 @@
+-- What the two calls are lent; numbers 2 to 12, which both ask after their own 1. Assumes nothing.
+use Prim.Native.Nat.{ℕ}
+use mathlib.Core.List.{List}
+use lib.IntN.{ℤ}
+use Rattle.theory.specs.Verdict.{orElse}
+use Rattle.theory.proofs.Verdict.{after}
+use Rattle.program.specs.Tables.{Tables}
+use Rattle.lent.specs.Tables.{lentVerdict}
+use Rattle.suppliers.specs.Windows.{Windowed, windowsBad}
+use Rattle.suppliers.specs.Supplier.{Asked}
+use Rattle.suppliers.specs.declared.Answer.{Answer}
+
+-- tables and windows
+abbrev pub windowed : Tables → List ℤ → Windowed
+windowed T W = record { tables = T; windows = W }
+
+-- a supplier's part and its number too
+abbrev pub asked : Tables → List ℤ → List ℤ → ℤ → Asked
+asked T W S s = record { tables = T; windows = W; part = S; supplier = s }
+
+-- 2 to 11 of the tables, then 12
+unfoldable pub shapedVerdict : Windowed → ℕ
+shapedVerdict L = after (lentVerdict (L .tables)) (orElse (windowsBad L) 12 0)
+
+-- an answer without a place
+abbrev pub refusal : ℕ → Answer
+refusal n = record { number = n; mode = 0; tick = 0 }

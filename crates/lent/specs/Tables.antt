@@ -1,0 +1,12 @@
+-- What every call that is lent the tables and more asks of them after its own 1: numbers 2 to 11.
+-- Assumes nothing.
+use Prim.Native.Nat.{ℕ}
+use mathlib.Core.List.{[], _∷_, _++_}
+use Rattle.theory.specs.Verdict.{verdict}
+use Rattle.program.specs.Tables.{Tables}
+use Rattle.rules.specs.Verdict.{tableRefusals}
+use Rattle.code.specs.Compile.{longRefusal}
+
+-- 2 to 11, the first that applies
+unfoldable pub lentVerdict : Tables → ℕ
+lentVerdict T = verdict (tableRefusals ++ (longRefusal ∷ [])) T

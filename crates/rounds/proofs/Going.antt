@@ -1,0 +1,138 @@
+-- A loop over the units of a round up to the first break: after k of them the rest is judged as the whole, the next block begins
+-- behind theirs, and every row of the schedule before the one that the walk has come to is behind it.
+-- Assumes of the schedule that it is sorted; for the limits, of the tables that they have no more rows than those (`Few`).
+use Prim.Native.Nat.{ℕ, suc, _+_, _-_, _≤_, _<_}
+use mathlib.Core.Path.{_≡_, sym, ap, subst, subst₂, _∙_}
+use mathlib.Core.List.{List}
+use native.Mathlib.Nat.{add-zero, add-assoc, le-trans}
+use native.Mathlib.Numerals.{add-one}
+use native.Mathlib.Omega.{arith}
+use lib.IntN.{ℤ}
+use Rattle.cells.specs.Limits.{maxPorts, maxUnits}
+use Rattle.layout.specs.declared.counts.Counts.{Counts}
+use Rattle.layout.specs.Few.{Few}
+use Rattle.layout.specs.Counts.{countsIn, beforeFuture, sizeOf, mostBlock, mostMode, mostCode}
+use Rattle.layout.proofs.Limits.{unit-most, mode-most}
+use Rattle.runs.specs.declared.block.Span.{Span}
+use Rattle.runs.specs.Schedule.{scheduleCount, rowsOf, blockOf, Sorted, found, spanOf}
+use Rattle.runs.specs.Round.{Course, worstCase, judge, nothing, worstBreak}
+use Rattle.runs.proofs.Blocks.{behind-later, found-within, found-behind, block-found}
+use Rattle.rounds.specs.declared.units.Ended.{Ended}
+use Rattle.rounds.specs.Course.{courseIn, blockAt, blockIn, Come}
+use Rattle.rounds.specs.Breaks.{breakNumber, breakTick, unitEnd}
+use Rattle.rounds.proofs.Stops.{unit-passed, unit-breaks, unit-own-block}
+
+-- the walk goes on: from the address of a block to its end, over the rows found at its `future`
+come-more : (S : List ℤ) (s at row : ℕ) (c : Counts) → Come S s at row → Come S s (at + sizeOf c) (found S row s (at + beforeFuture c) .end)
+come-more S s at row c h =
+    let a = at + beforeFuture c in
+    record {
+      within = found-within S s a row (h .within) .2;
+      behind =
+          behind-later S s (suc a) (at + sizeOf c) (found S row s a .end) (omega arith)
+          (found-behind S s a row (behind-later S s at a row (omega arith) (h .behind)));
+    }
+
+module _ (tasks invocations updates switches W S : List ℤ) (sensors s m u ticks first : ℕ) where
+  -- what is due at each unit, and the course
+  abbrev counts : ℕ → Counts
+  counts = countsIn invocations updates switches sensors m u
+
+  abbrev run : Course
+  run = courseIn tasks invocations W s m u ticks (blockIn S s counts first)
+
+  -- after k units
+  pub record Going (k at row : ℕ) (left : List ℕ) : Type 0 where
+    pub in-range : k ≤ u
+    pub judged : judge run (worstCase run) (u - k) k left ≡ worstBreak run nothing
+    pub ends : at ≡ blockAt counts first k
+    pub come : Come S s at row
+
+  -- the loop begins
+  pub going-none : {row : ℕ} → Come S s first row → Going 0 first row nothing
+  going-none w =
+      let z : u - 0 ≡ u = omega arith in
+      record {
+        in-range = omega arith;
+        judged = ap (λ (n : ℕ). judge run (worstCase run) n 0 nothing) z;
+        ends = sym (add-zero first);
+        come = w;
+      }
+
+  module _ {k at row : ℕ} {left : List ℕ} (h : Going k at row left) where
+    -- no address up to the end of the next block exceeds the longest code and a block
+    pub going-near : Few invocations updates switches → sensors ≤ maxPorts → u ≤ suc maxUnits → first + mostMode ≤ mostCode
+        → {c : Counts} → c ≡ counts k → at + sizeOf c ≤ mostCode + mostBlock
+    going-near few z l b d =
+        let e = ap sizeOf d in
+        omega (
+          arith,
+          h .ends,
+          mode-most invocations updates switches sensors m u few z k (le-trans (h .in-range) l),
+          e,
+          unit-most invocations updates switches sensors m u few z k,
+        )
+
+    -- where the rows of the next block were found
+    pub going-found : (a : ℕ) {span : Span} → span ≡ found S row s a → (span .begin ≤ span .end) × (span .end ≤ scheduleCount S)
+    going-found a q =
+        let w = found-within S s a row (h .come .within) in
+        subst (λ (x : Span). (x .begin ≤ x .end) × (x .end ≤ scheduleCount S)) (sym q) (w .1, w .2)
+
+    -- the next unit, as it was counted, found and run
+    module _ {c : Counts} {before : ℕ} {span : Span} {part : List ℤ} {unit : Ended} (o : Sorted S) (l : k < u) (d : c ≡ counts k) (b : before ≡ beforeFuture c)
+        (q : span ≡ found S row s (at + before)) (p : part ≡ spanOf S span)
+        (e : unit ≡ unitEnd (courseIn tasks invocations W s m u ticks (λ j. rowsOf part)) k left) where
+      -- the rows found are its block
+      rows-are : rowsOf part ≡ blockIn S s counts first k
+      rows-are =
+          ap rowsOf p
+          ∙ ap (λ (x : Span). rowsOf (spanOf S x)) q
+          ∙ block-found S s (at + before) row o (h .come .within) (behind-later S s at (at + before) row (omega arith) (h .come .behind))
+          ∙ (λ j. blockOf S s (h .ends j + b j))
+          ∙ ap (λ (x : Counts). blockOf S s (blockAt counts first k + beforeFuture x)) d
+
+      -- so it ended as it does in the course
+      unit-is : unit ≡ unitEnd run k left
+      unit-is = e ∙ unit-own-block tasks invocations W s m u ticks (blockIn S s counts first) k left rows-are
+
+      -- it and the units after it are judged as the round is
+      rest : judge run (worstCase run) (suc (u - (k + 1))) k left ≡ worstBreak run nothing
+      rest =
+          let z : u - k ≡ suc (u - (k + 1)) = omega arith in
+          sym (ap (λ (n : ℕ). judge run (worstCase run) n k left) z) ∙ h .judged
+
+      -- it does not break
+      pub going-more : {size : ℕ} → size ≡ sizeOf c → unit .number ≤ 0 → Going (k + 1) (at + size) (span .end) (unit .left)
+      going-more {size} g n =
+          let z : unitEnd run k left .number ≡ 0 = omega (arith, ap (λ (x : Ended). x .number) unit-is) in
+          record {
+            in-range = omega arith;
+            judged =
+                (λ j. judge run (worstCase run) (u - (k + 1)) (add-one k j) (unit-is j .left))
+                ∙ sym (unit-passed run k left (u - (k + 1)) z)
+                ∙ rest;
+            ends =
+                (λ j. h .ends j + g j)
+                ∙ ap (λ (x : Counts). blockAt counts first k + sizeOf x) d
+                ∙ (add-assoc first _ _ ∙ ap (blockAt counts first) (sym (add-one k)));
+            come =
+                subst₂ (λ (x : ℕ) (y : ℕ). Come S s x y) (λ j. at + sym g j) (sym (ap (λ (x : Span). x .end) q ∙ (λ j. found S row s (at + b j) .end)))
+                (come-more S s at row c (h .come));
+          }
+
+      -- it does
+      pub going-breaks : 0 < unit .number → (unit .number ≡ breakNumber (worstBreak run nothing)) × (unit .tick ≡ breakTick (worstBreak run nothing))
+      going-breaks n =
+          let w = unit-breaks run k left (u - (k + 1)) (omega (arith, n, ap (λ (x : Ended). x .number) unit-is)) in (
+            ap (λ (x : Ended). x .number) unit-is ∙ w .0 ∙ ap breakNumber rest,
+            ap (λ (x : Ended). x .tick) unit-is ∙ w .1 ∙ ap breakTick rest,
+          )
+
+    -- the loop ends: no unit broke
+    pub going-all : u ≤ k → (0 ≡ breakNumber (worstBreak run nothing)) × (0 ≡ breakTick (worstBreak run nothing)) × (at ≡ blockAt counts first u)
+    going-all l =
+        let z : 0 ≡ u - k = omega arith in
+        let y : k ≡ u = omega (arith, h .in-range) in
+        let e : judge run (worstCase run) 0 k left ≡ worstBreak run nothing = ap (λ (n : ℕ). judge run (worstCase run) n k left) z ∙ h .judged in
+        (ap breakNumber e, ap breakTick e, h .ends ∙ ap (blockAt counts first) y)

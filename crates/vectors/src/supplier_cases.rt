@@ -1,0 +1,104 @@
+// The kind `supplier`: a program, its windows, a part of the schedule and a supplier a case; number, mode and tick a line.
+use crate::answers::Answer;
+use crate::out;
+use cases::numbers;
+use cases::numbers::Number;
+use cases::room;
+use cases::stream::Reader;
+use cases::tables;
+use cases::tables::Lengths;
+use cells::parts::part;
+
+// What was read of a case: a program, how many numbers of its windows and of the part, and the supplier.
+struct Asked {
+    program: Lengths,
+    windows: usize,
+    rows: usize,
+    supplier: Number,
+}
+
+fn read_case(
+    r: Reader,
+    buffer: &mut [u8],
+    room: &mut [i32],
+    windows: &mut [i32],
+    rows: &mut [i32],
+) -> Asked {
+    let program = tables::program(r, buffer, room);
+    let own_windows = tables::slice(program.reader, buffer, windows);
+    let own_rows = tables::slice(own_windows.reader, buffer, rows);
+    let supplier = numbers::signed(own_rows.reader, buffer);
+    Asked {
+        program,
+        windows: own_windows.len,
+        rows: own_rows.len,
+        supplier,
+    }
+}
+
+// The verdict on a part of a program that was read.
+fn verdict(
+    l: Lengths,
+    room: &[i32],
+    windows: &[i32],
+    rows: &[i32],
+    supplier: i32,
+) -> suppliers::Answer {
+    acceptance::supplier_verdict(
+        part(room, room::PORTS_AT, l.ports),
+        part(room, room::TASKS_AT, l.tasks),
+        part(room, room::TASK_PORTS_AT, l.task_ports),
+        part(room, room::DRIVERS_AT, l.drivers),
+        part(room, room::COPIES_AT, l.copies),
+        part(room, room::MODES_AT, l.modes),
+        part(room, room::MODE_PORTS_AT, l.mode_ports),
+        part(room, room::INVOCATIONS_AT, l.invocations),
+        part(room, room::UPDATES_AT, l.updates),
+        part(room, room::SWITCHES_AT, l.switches),
+        l.start,
+        windows,
+        rows,
+        supplier,
+    )
+}
+
+// Its line; false where it could not be written. A refused reader has none.
+fn judged(a: Asked, room: &[i32], windows: &[i32], rows: &[i32]) -> bool {
+    let supplier = a.supplier;
+    let reader = supplier.reader;
+    if !reader.ok {
+        return true;
+    }
+    let answer = verdict(
+        a.program,
+        room,
+        part(windows, 0, a.windows),
+        part(rows, 0, a.rows),
+        supplier.value,
+    );
+    if !out::digits(answer.number) {
+        return false;
+    }
+    if !out::after_space(answer.mode) {
+        return false;
+    }
+    if !out::after_space(answer.tick) {
+        return false;
+    }
+    out::line_end()
+}
+
+pub fn case(r: Reader, buffer: &mut [u8]) -> Answer {
+    let mut room = [0i32; room::ALL];
+    let mut windows = [0i32; room::WINDOWS];
+    let mut rows = [0i32; room::PART];
+    let a = read_case(r, buffer, &mut room, &mut windows, &mut rows);
+    let written = judged(a, &room, &windows, &rows);
+    let supplier = a.supplier;
+    let reader = supplier.reader;
+    Answer {
+        reader,
+        known: true,
+        written,
+    }
+}

@@ -1,0 +1,48 @@
+// The kind `windows`: a program and its windows a case, the windows verdict a line.
+use crate::answers::Answer;
+use crate::out;
+use cases::room;
+use cases::stream::Reader;
+use cases::tables;
+use cases::tables::Lengths;
+use cells::parts::part;
+
+// The line of a program that was read, with its windows; false where it could not be written.
+fn judged(l: Lengths, room: &[i32], windows: &[i32]) -> bool {
+    out::number(acceptance::windows_verdict(
+        part(room, room::PORTS_AT, l.ports),
+        part(room, room::TASKS_AT, l.tasks),
+        part(room, room::TASK_PORTS_AT, l.task_ports),
+        part(room, room::DRIVERS_AT, l.drivers),
+        part(room, room::COPIES_AT, l.copies),
+        part(room, room::MODES_AT, l.modes),
+        part(room, room::MODE_PORTS_AT, l.mode_ports),
+        part(room, room::INVOCATIONS_AT, l.invocations),
+        part(room, room::UPDATES_AT, l.updates),
+        part(room, room::SWITCHES_AT, l.switches),
+        l.start,
+        windows,
+    ))
+}
+
+pub fn case(r: Reader, buffer: &mut [u8]) -> Answer {
+    let mut room = [0i32; room::ALL];
+    let mut windows = [0i32; room::WINDOWS];
+    let l = tables::program(r, buffer, &mut room);
+    let kept = tables::slice(l.reader, buffer, &mut windows);
+    let reader = kept.reader;
+    let known = true;
+    if !reader.ok {
+        return Answer {
+            reader,
+            known,
+            written: true,
+        };
+    }
+    let written = judged(l, &room, part(&windows, 0, kept.len));
+    Answer {
+        reader,
+        known,
+        written,
+    }
+}
