@@ -1,5 +1,6 @@
 -- Demand 3, first half, holds of the definitions: a supplier's schedule code is accepted exactly where every fair run keeps to
--- its windows and terminations; the place is that of the worst-case run; other suppliers do not matter. Assumes nothing.
+-- its windows and terminations; the place is that of the worst-case run; a shorter run is dominated; other suppliers do not matter.
+-- Assumes nothing.
 use Prim.Native.Nat.{ℕ, zero, suc, _≤_, _<_}
 use mathlib.Core.Path.{_≡_, sym, ap, subst, _∙_, fun-ext}
 use mathlib.Core.Bool.{true}
@@ -24,15 +25,17 @@ use Rattle.runs.specs.Windows.{windowCount, winSupplier, winMode, winFrom, winT
 use Rattle.runs.specs.Schedule.{scheduleWidth}
 use Rattle.runs.specs.Round.{Choice, Good, Fair, worstCase, Break, none, outside, late, worstBreak, nothing}
 use Rattle.runs.proofs.Windows.{in-window-says}
+use Rattle.runs.proofs.Tick.{tick-runs}
+use Rattle.runs.proofs.Dominated.{unit-dominated}
 use Rattle.runs.proofs.First.{judge-exactly}
 use Rattle.runs.proofs.Exactly.{no-break-exactly}
 use Rattle.suppliers.specs.Windows.{windowsVerdict}
-use Rattle.suppliers.specs.Supplier.{Asked, supplierOf, courseOf, answerFrom, judged, partVerdict, supplierVerdict}
+use Rattle.suppliers.specs.Supplier.{Asked, supplierOf, courseOf, answerOf, answerFrom, judged, partVerdict, supplierVerdict}
 use Rattle.suppliers.specs.declared.Answer.{Answer}
-use Rattle.suppliers.proofs.Modes.{answerOf, AllGood, BreaksFirst, answer-good, answer-break}
+use Rattle.suppliers.proofs.Modes.{AllGood, BreaksFirst, answer-good, answer-break}
 use Rattle.suppliers.proofs.Accepted.{part-some-time, part-after}
 use Rattle.suppliers.proofs.Tasks.{withTasks, part-tasks, break-tasks}
-use Rattle.demands.specs.Supplier.{SupplierExact, BreaksAt, SupplierPlace, Window, ownWindows, Independent}
+use Rattle.demands.specs.Supplier.{SupplierExact, BreaksAt, SupplierPlace, shorter, longer, Domination, Window, ownWindows, Independent}
 
 module _ (L : Asked) (a : partVerdict L ≡ 0) where
   -- not refused by 1 to 13: the verdict is what the judge of each mode gives
@@ -66,6 +69,16 @@ module _ (L : Asked) (a : partVerdict L ≡ 0) where
       is-break = d;
     },
   )
+
+-- a shorter run of a unit is dominated
+pub domination : Domination
+domination C c d k r q h l b =
+    let w = unit-dominated C c d k h r q l b in
+    record {
+      further = λ e. w e .further;
+      owes = λ e. w e .owes;
+      runs-only = λ e. tick-runs (C .block k) e (shorter C c d k r q e) (longer C c d k r q e) (w e);
+    }
 
 -- accepted exactly where every fair run of every mode keeps to its windows and terminations
 pub supplier-exact : SupplierExact

@@ -1,17 +1,20 @@
 -- Demand 3, first half, as statements: a supplier's schedule code is accepted exactly when, in every mode and for every
--- choice of execution times, it stays in its windows and ends in time; the place; the independence of other suppliers.
+-- choice of execution times, it stays in its windows and ends in time; the place; why the worst case decides; the independence
+-- of other suppliers.
 -- Proved of these definitions in proofs/Supplier.antt. Assumes nothing.
-use Prim.Native.Nat.{ℕ, _<_}
+use Prim.Native.Nat.{ℕ, _≤_, _<_}
 use mathlib.Core.Path.{_≡_}
+use mathlib.Core.Bool.{true}
 use mathlib.Core.List.{List}
 use mathlib.Core.Logic.{_↔_}
 use lib.Dec.{eqb}
 use lib.IntN.{ℤ}
 use lib.ListN.{length}
-use Rattle.theory.specs.Lists.{those}
+use Rattle.theory.specs.Lists.{those, member}
 use Rattle.program.specs.Tables.{Tables, modeCount, taskSupplier, taskWorst}
+use Rattle.runs.specs.Tick.{leftOf, runs, Place, doing}
 use Rattle.runs.specs.Windows.{windowCount, winSupplier, winMode, winFrom, winTo}
-use Rattle.runs.specs.Round.{Choice, Good, Fair, worstCase, Break, outside, late, FirstBreak, nothing}
+use Rattle.runs.specs.Round.{Course, Choice, begin, going, Good, Fair, worstCase, Break, outside, late, FirstBreak, nothing}
 use Rattle.suppliers.specs.Windows.{windowsVerdict}
 use Rattle.suppliers.specs.Supplier.{Asked, supplierOf, courseOf, windowedOf, partVerdict, supplierVerdict}
 
@@ -36,6 +39,31 @@ pub record PlaceExact (L : Asked) : Type 0 where
 
 abbrev pub SupplierPlace : Type 0
 SupplierPlace = (L : Asked) → partVerdict L ≡ 0 → PlaceExact L
+
+-- The worst case decides because a shorter run is dominated. Two runs of unit k of a course, of choice c from the remaining times r
+-- and of choice d from q:
+module _ (C : Course) (c d : Choice) (k : ℕ) (r q : List ℕ) where
+  -- after e ticks of the unit
+  abbrev pub shorter : ℕ → Place
+  shorter e = going (C .block k) (begin C c k r) e
+
+  abbrev pub longer : ℕ → Place
+  longer e = going (C .block k) (begin C d k q) e
+
+  -- after every tick the first is at least as far and owes at most as much, and it runs only when the other does
+  pub record DominatedUnit : Type 0 where
+    pub further : (e : ℕ) → longer e .position ≤ shorter e .position
+    pub owes : (e j : ℕ) → leftOf (shorter e .left) j ≤ leftOf (longer e .left) j
+    pub runs-only : (e : ℕ) → runs (doing (C .block k) e (shorter e)) ≡ true → runs (doing (C .block k) e (longer e)) ≡ true
+
+-- from any remaining times at the unit's start, not only from none
+abbrev pub Domination : Type 0
+Domination =
+    (C : Course) (c d : Choice) (k : ℕ) (r q : List ℕ)
+    → ((j : ℕ) → member j (C .released k) ≡ true → c k j ≤ d k j)
+    → length r ≤ length q
+    → ((j : ℕ) → leftOf r j ≤ leftOf q j)
+    → DominatedUnit C c d k r q
 
 -- Two programs that differ only in the worst-case times of other suppliers than s
 pub record SameFor (s : ℕ) (T U : Tables) : Type 0 where

@@ -6,8 +6,7 @@ use native.Mathlib.Numerals.{add-one}
 use native.Mathlib.Omega.{arith}
 use Rattle.runs.specs.Round.{Break, none, outside, late}
 use Rattle.suppliers.specs.declared.Answer.{Answer}
-use Rattle.suppliers.specs.Supplier.{answerFrom}
-use Rattle.rounds.specs.Breaks.{breakNumber, breakTick}
+use Rattle.suppliers.specs.Supplier.{breakNumber, breakTick, answerOf, answerFrom}
 
 module _ (breaks : ℕ → Break) (n : ℕ) where
   -- after m modes of n none broke
@@ -22,8 +21,8 @@ module _ (breaks : ℕ → Break) (n : ℕ) where
   abbrev this : ℕ → ℕ → Break → Answer
   this k m b = elim b [
     | none ↦ answerFrom breaks k (suc m)
-    | outside t ↦ record { number = 14; mode = m; tick = t }
-    | late t ↦ record { number = 15; mode = m; tick = t }
+    | outside t ↦ answerOf m (outside t)
+    | late t ↦ answerOf m (late t)
   ]
 
   -- the modes from mode m on

@@ -25,7 +25,7 @@ use Rattle.layout.proofs.Laid.{counts-mode, start-mode}
 use Rattle.runs.specs.Round.{Course, worstCase, Break, none, outside, late, judge, worstBreak, nothing}
 use Rattle.runs.specs.Schedule.{blockOf}
 use Rattle.runs.proofs.Same.{SameCourse, judge-same}
-use Rattle.suppliers.specs.Supplier.{Asked, supplierOf, ownTasks, course, answerFrom, judged, partVerdict}
+use Rattle.suppliers.specs.Supplier.{Asked, supplierOf, ownTasks, course, answerOf, answerFrom, judged, partVerdict}
 use Rattle.suppliers.proofs.Accepted.{part-accepted}
 use Rattle.rounds.specs.Course.{ownDue, ownRows, unitAfter, blockAt, courseOn}
 
@@ -113,8 +113,8 @@ answer-same b c zero m h = refl
 answer-same b c (suc n) m h =
     λ i. elim (h m (omega arith) i) [
       | none ↦ answer-same b c n (suc m) (λ j l. h j (omega arith)) i
-      | outside t ↦ record { number = 14; mode = m; tick = t }
-      | late t ↦ record { number = 15; mode = m; tick = t }
+      | outside t ↦ answerOf m (outside t)
+      | late t ↦ answerOf m (late t)
     ]
 
 -- the answer over all modes as they were counted is that of the definitions

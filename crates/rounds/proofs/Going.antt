@@ -17,9 +17,10 @@ use Rattle.runs.specs.declared.block.Span.{Span}
 use Rattle.runs.specs.Schedule.{scheduleCount, rowsOf, blockOf, Sorted, found, spanOf}
 use Rattle.runs.specs.Round.{Course, worstCase, judge, nothing, worstBreak}
 use Rattle.runs.proofs.Blocks.{behind-later, found-within, found-behind, block-found}
+use Rattle.suppliers.specs.Supplier.{breakNumber, breakTick}
 use Rattle.rounds.specs.declared.units.Ended.{Ended}
 use Rattle.rounds.specs.Course.{courseIn, blockAt, blockIn, Come}
-use Rattle.rounds.specs.Breaks.{breakNumber, breakTick, unitEnd}
+use Rattle.rounds.specs.Breaks.{unitEnd}
 use Rattle.rounds.proofs.Stops.{unit-passed, unit-breaks, unit-own-block}
 
 -- the walk goes on: from the address of a block to its end, over the rows found at its `future`

@@ -13,9 +13,10 @@ use Rattle.cells.specs.Limits.{maxPeriod, maxUnits}
 use Rattle.runs.specs.Tick.{Row}
 use Rattle.runs.specs.declared.unit.Watched.{Watched}
 use Rattle.runs.specs.Round.{Course, release, begin, worstCase, Break, outside, late, Ticked, ended, left-at, watched, toldTicks, unfinished, judge}
+use Rattle.suppliers.specs.Supplier.{breakNumber, breakTick}
 use Rattle.rounds.specs.declared.units.Ended.{Ended}
 use Rattle.rounds.specs.Course.{courseIn}
-use Rattle.rounds.specs.Breaks.{breakNumber, breakTick, stopped, went, unitEnd}
+use Rattle.rounds.specs.Breaks.{stopped, went, unitEnd}
 
 -- the ticks of the round before the end of unit k
 pub ticks-most : {k u ticks : ℕ} → k < u → u ≤ suc maxUnits → ticks ≤ maxPeriod → suc k * ticks ≤ suc maxUnits * maxPeriod
@@ -24,10 +25,10 @@ ticks-most {k} {u} {ticks} l h t = mul-le-mul {n₁ = suc k} {m₁ = ticks} {n�
 module _ (C : Course) (k : ℕ) (left : List ℕ) where
   -- what becomes of the unit by its terminations, and by its ticks
   abbrev terminated : List ℕ → Bool → Ended
-  terminated r b = elim b [ true ↦ stopped 15 (suc k * C .ticks) | false ↦ went r ]
+  terminated r b = elim b [ true ↦ stopped (late (suc k * C .ticks)) | false ↦ went r ]
 
   abbrev one : Ticked → Ended
-  one w = elim w [ left-at t ↦ stopped 14 t | ended r ↦ terminated r (unfinished (C .ending k) r) ]
+  one w = elim w [ left-at t ↦ stopped (outside t) | ended r ↦ terminated r (unfinished (C .ending k) r) ]
 
   module _ {begun : List ℕ} {w : Watched} (f : begun ≡ release (C .released k) (C .worst) left)
       (e : w ≡ toldTicks (watched (C .window) (C .block k) (C .ticks) 0 (k * C .ticks) (record { position = 0; left = begun }))) where
@@ -36,12 +37,12 @@ module _ (C : Course) (k : ℕ) (left : List ℕ) where
     told = e ∙ (λ j. toldTicks (watched (C .window) (C .block k) (C .ticks) 0 (k * C .ticks) (record { position = 0; left = f j })))
 
     -- a tick ran outside the windows
-    pub unit-outside : w .outside ≡ true → stopped 14 (w .tick) ≡ unitEnd C k left
+    pub unit-outside : w .outside ≡ true → stopped (outside (w .tick)) ≡ unitEnd C k left
     unfolding unitEnd
     unit-outside o = go (watched (C .window) (C .block k) (C .ticks) 0 (k * C .ticks) (begin C (worstCase C) k left)) told
       where
-        go : (x : Ticked) → w ≡ toldTicks x → stopped 14 (w .tick) ≡ one x
-        go (left-at t) q = λ j. stopped 14 (q j .tick)
+        go : (x : Ticked) → w ≡ toldTicks x → stopped (outside (w .tick)) ≡ one x
+        go (left-at t) q = λ j. stopped (outside (q j .tick))
         go (ended r) q = clash o (ap (λ (w : Watched). w .outside) q)
 
     module _ {js : List ℕ} {b : Bool} (o : w .outside ≡ false) (g : js ≡ C .ending k) (h : b ≡ unfinished js (w .left)) where
@@ -50,13 +51,13 @@ module _ (C : Course) (k : ℕ) (left : List ℕ) where
       ends q = sym (h ∙ (λ j. unfinished (g j) (q j)))
 
       -- no tick did, and a task has not ended
-      pub unit-late : {tick : ℕ} → b ≡ true → tick ≡ suc k * C .ticks → stopped 15 tick ≡ unitEnd C k left
+      pub unit-late : {tick : ℕ} → b ≡ true → tick ≡ suc k * C .ticks → stopped (late tick) ≡ unitEnd C k left
       unfolding unitEnd
       unit-late v t =
-          ap (stopped 15) t
+          ap (λ (n : ℕ). stopped (late n)) t
           ∙ go (watched (C .window) (C .block k) (C .ticks) 0 (k * C .ticks) (begin C (worstCase C) k left)) told
         where
-          go : (x : Ticked) → w ≡ toldTicks x → stopped 15 (suc k * C .ticks) ≡ one x
+          go : (x : Ticked) → w ≡ toldTicks x → stopped (late (suc k * C .ticks)) ≡ one x
           go (left-at t) q = clash (ap (λ (w : Watched). w .outside) q) o
           go (ended r) q = sym (ap (terminated r) (ends (ap (λ (w : Watched). w .left) q) ∙ v))
 

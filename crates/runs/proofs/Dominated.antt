@@ -60,27 +60,33 @@ release-below (j ∷ js) c d r q h l b =
 abbrev pub Shorter : Course → Choice → Choice → Type 0
 Shorter C c d = (k j : ℕ) → member j (C .released k) ≡ true → c k j ≤ d k j
 
+-- one unit, from any remaining times at its start of which one are at most the other
+pub unit-dominated : (C : Course) (c d : Choice) (k : ℕ) → ((j : ℕ) → member j (C .released k) ≡ true → c k j ≤ d k j)
+    → (r q : List ℕ) → length r ≤ length q → AtMost r q
+    → (e : ℕ) → Dominated (C .block k) e (going (C .block k) (begin C c k r) e) (going (C .block k) (begin C d k q) e)
+unit-dominated C c d k shorter r q as-many less =
+    going-dominated (C .block k) (begin C c k r) (begin C d k q)
+    (record {
+      further = omega arith;
+      owes = release-below (C .released k) (c k) (d k) r q shorter as-many less;
+      settled-s = omega arith;
+      settled-d = omega arith;
+    })
+
 -- Two runs of a course: of choice c from r, and of choice d from q.
 module _ (C : Course) (c d : Choice) (shorter : Shorter C c d) (r q : List ℕ) (as-many : length r ≤ length q) (less : AtMost r q) where
-  unit-dominated : (k : ℕ) → AtMost (before C c r k) (before C d q k) → (e : ℕ) → Dominated (C .block k) e (alone C c r k e) (alone C d q k e)
-  unit-dominated k b =
-      going-dominated (C .block k) (begin C c k (before C c r k)) (begin C d k (before C d q k))
-      (record {
-        further = omega arith;
-        owes = release-below (C .released k) (c k) (d k) (before C c r k) (before C d q k) (shorter k)
-            (omega (arith, before-length C c r k, before-length C d q k)) b;
-        settled-s = omega arith;
-        settled-d = omega arith;
-      })
+  unit-from : (k : ℕ) → AtMost (before C c r k) (before C d q k) → (e : ℕ) → Dominated (C .block k) e (alone C c r k e) (alone C d q k e)
+  unit-from k b =
+      unit-dominated C c d k (shorter k) (before C c r k) (before C d q k) (omega (arith, before-length C c r k, before-length C d q k)) b
 
   -- before every unit the shorter run owes at most as much
   pub before-dominated : (k : ℕ) → AtMost (before C c r k) (before C d q k)
   before-dominated zero = less
-  before-dominated (suc k) = unit-dominated k (before-dominated k) (C .ticks) .owes
+  before-dominated (suc k) = unit-from k (before-dominated k) (C .ticks) .owes
 
   -- in every unit and after every tick the shorter run is dominated
   pub alone-dominated : (k e : ℕ) → Dominated (C .block k) e (alone C c r k e) (alone C d q k e)
-  alone-dominated k e = unit-dominated k (before-dominated k) e
+  alone-dominated k e = unit-from k (before-dominated k) e
 
   -- whenever the shorter run runs, the longer runs too
   pub alone-runs : (k e : ℕ) → runs (doing (C .block k) e (alone C c r k e)) ≡ true → runs (doing (C .block k) e (alone C d q k e)) ≡ true

@@ -6,14 +6,8 @@ use mathlib.Core.Logic.{_⊎_, inl, inr, _↔_}
 use native.Mathlib.Omega.{arith}
 use native.Mathlib.Decide.{ℕ-discrete, decLt}
 use Rattle.runs.specs.Round.{Break, none, outside, late}
-use Rattle.suppliers.specs.Supplier.{answerFrom}
+use Rattle.suppliers.specs.Supplier.{answerOf, answerFrom}
 use Rattle.suppliers.specs.declared.Answer.{Answer}
-
--- the answer on a mode with its first break
-abbrev pub answerOf : ℕ → Break → Answer
-answerOf m none = record { number = 0; mode = 0; tick = 0 }
-answerOf m (outside t) = record { number = 14; mode = m; tick = t }
-answerOf m (late t) = record { number = 15; mode = m; tick = t }
 
 -- no run breaks in the n modes from m on
 abbrev pub AllGood : (ℕ → Break) → ℕ → ℕ → Type 0
@@ -83,8 +77,8 @@ module _ (breaks : ℕ → Break) where
       go : (b : Break) → breaks m ≡ b → Answered breaks n (suc m) (answerFrom breaks n (suc m))
           → Answered breaks (suc n) m (elim b [
             | none ↦ answerFrom breaks n (suc m)
-            | outside t ↦ record { number = 14; mode = m; tick = t }
-            | late t ↦ record { number = 15; mode = m; tick = t }
+            | outside t ↦ answerOf m (outside t)
+            | late t ↦ answerOf m (late t)
           ])
       go none e i = next n m (answerFrom breaks n (suc m)) e i
       go (outside t) e i = here n m (outside t) e (λ q. absurd (let z : _≡_ {A = ℕ} 0 1 = cc in omega arith))

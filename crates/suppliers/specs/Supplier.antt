@@ -51,13 +51,30 @@ course P W S s m = record {
 abbrev pub courseOf : Asked → ℕ → Course
 courseOf L m = course (programOf (L .tables)) (L .windows) (L .part) (supplierOf L) m
 
+-- the number and the tick of the first break of a run
+abbrev pub breakNumber : Break → ℕ
+breakNumber none = 0
+breakNumber (outside t) = 14
+breakNumber (late t) = 15
+
+abbrev pub breakTick : Break → ℕ
+breakTick none = 0
+breakTick (outside t) = t
+breakTick (late t) = t
+
+-- the answer on a mode with its first break: only a break adds a place
+abbrev pub answerOf : ℕ → Break → Answer
+answerOf m none = record { number = 0; mode = 0; tick = 0 }
+answerOf m (outside t) = record { number = breakNumber (outside t); mode = m; tick = t }
+answerOf m (late t) = record { number = breakNumber (late t); mode = m; tick = t }
+
 -- of n modes from m on, the first whose run breaks
 abbrev pub answerFrom : (ℕ → Break) → ℕ → ℕ → Answer
-answerFrom breaks zero m = record { number = 0; mode = 0; tick = 0 }
+answerFrom breaks zero m = answerOf m none
 answerFrom breaks (suc n) m = elim (breaks m) [
   | none ↦ answerFrom breaks n (suc m)
-  | outside t ↦ record { number = 14; mode = m; tick = t }
-  | late t ↦ record { number = 15; mode = m; tick = t }
+  | outside t ↦ answerOf m (outside t)
+  | late t ↦ answerOf m (late t)
 ]
 
 abbrev pub judged : Asked → Answer

@@ -23,14 +23,15 @@ use Rattle.giotto.specs.Instant.{results}
 use Rattle.giotto.specs.Execution.{execution}
 use Rattle.giotto.specs.Successor.{Successor}
 use Rattle.giotto.proofs.Execution.{execution-succeeds}
+use Rattle.runs.specs.Tick.{leftOf}
 use Rattle.runs.specs.Round.{Choice, Fair, Good, nothing}
 use Rattle.suppliers.specs.Windows.{windowsVerdict}
 use Rattle.suppliers.specs.Supplier.{Asked, courseOf, windowedOf, partVerdict, supplierVerdict}
-use Rattle.demands.specs.Supplier.{ownWindows}
+use Rattle.demands.specs.Supplier.{DominatedUnit, ownWindows}
 use Rattle.demands.specs.Supplied.{supplied}
 use Rattle.demands.specs.Composed as composed
 use Rattle.demands.proofs.Verdict.{accepted-exactly}
-use Rattle.demands.proofs.Supplier.{supplier-exact, independent}
+use Rattle.demands.proofs.Supplier.{supplier-exact, domination, independent}
 use Rattle.demands.proofs.Supplied.{worstTimes, worst-case-fair}
 use Rattle.worked.specs.Computed.{computed}
 use Rattle.worked.specs.Programs.{F}
@@ -54,7 +55,7 @@ values-by-test : (t : List ℤ) → areValues t ≡ true → Values t
 values-by-test t e = every-at Value t (pos 0) (refl, refl) (every-value t e)
 
 -- demand 2: both programs meet every rule
-F-verdict : programVerdict (F 6 2) ≡ 0
+pub F-verdict : programVerdict (F 6 2) ≡ 0
 unfolding computed
 F-verdict = refl
 
@@ -75,10 +76,10 @@ pub F-succeeds :
 F-succeeds = execution-succeeds (F 6 2) F-rules mix readings 0 refl
 
 -- demand 3, first half: F's code keeps to its window and ends in time for every choice of execution times
-abbrev F-asked : Asked
+abbrev pub F-asked : Asked
 F-asked = record { tables = F 6 2; windows = F-system .windows; part = F-system .parts 0; supplier = pos 0 }
 
-F-part : partVerdict F-asked ≡ 0
+pub F-part : partVerdict F-asked ≡ 0
 unfolding computed
 F-part = refl
 
@@ -88,6 +89,14 @@ F-answer = refl
 
 pub F-good : (c : Choice) → Fair (courseOf F-asked 0) c → Good (courseOf F-asked 0) c nothing
 F-good c f = supplier-exact F-asked F-part .0 F-answer 0 (omega arith) c f
+
+-- domination from other remaining times than none: t1 has one tick left in the shorter run, and two in the longer
+less-left : (j : ℕ) → leftOf (1 ∷ []) j ≤ leftOf (2 ∷ []) j
+less-left zero = omega arith
+less-left (suc j) = omega arith
+
+pub F-dominated : DominatedUnit (courseOf F-asked 0) (λ k j. 1) (λ k j. 2) 1 (1 ∷ []) (2 ∷ [])
+F-dominated = domination (courseOf F-asked 0) (λ k j. 1) (λ k j. 2) 1 (1 ∷ []) (2 ∷ []) (λ j h. omega arith) (omega arith) less-left
 
 -- independence: the monitor's supplier 0, where supplier 1 gets less time and a shorter window
 abbrev asked : ℕ → ℕ → Asked

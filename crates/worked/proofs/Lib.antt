@@ -3,3 +3,4 @@ pub mod Table
 pub mod Runs
 pub mod Instances
 pub mod Listings
+pub mod Walk

@@ -26,7 +26,7 @@ unfolding computed
 F-units = refl
 
 -- F: 17 instructions, and the whole listing
-F-length : length (listingOf (F 6 2)) ≡ 17
+pub F-length : length (listingOf (F 6 2)) ≡ 17
 unfolding computed
 F-length = refl
 

@@ -14,8 +14,8 @@ use Rattle.layout.proofs.Limits.{lent}
 use Rattle.layout.proofs.Laid.{start-near}
 use Rattle.runs.specs.Round.{Break, worstBreak, nothing}
 use Rattle.runs.proofs.Blocks.{behind-none}
+use Rattle.suppliers.specs.Supplier.{breakNumber, breakTick}
 use Rattle.rounds.specs.Course.{courseOn, Come}
-use Rattle.rounds.specs.Breaks.{breakNumber, breakTick}
 use Rattle.rounds.proofs.Lent.{start-next}
 use Rattle.rounds.proofs.Answers.{Answering, answering-none, answering-more, answering-found, answering-all}
 use Rattle.rounds.proofs.every_mode.answer.Statement.{statement}

@@ -10,7 +10,7 @@ use Rattle.program.specs.Units.{units}
 use Rattle.layout.proofs.Limits.{told-most, units-told}
 use Rattle.layout.proofs.Laid.{size-lent}
 use Rattle.runs.specs.Round.{Course, worstBreak, nothing}
-use Rattle.rounds.specs.Breaks.{breakNumber, breakTick}
+use Rattle.suppliers.specs.Supplier.{breakNumber, breakTick}
 use Rattle.rounds.proofs.Lent.{course-lent}
 use Rattle.rounds.proofs.every_mode.one_mode.Statement.{statement}
 use Rattle.rounds.proofs.every_mode.one_mode.Tie as tie

@@ -1,0 +1,66 @@
+-- F's schedule code meets the premises of the laws that a supplier's verdict walks by: its blocks are found, its delays told, its
+-- runs as they were counted. Assumes nothing.
+use mathlib.Core.Path.{_≡_, refl}
+use mathlib.Core.Bool.{false}
+use mathlib.Core.List.{List}
+use native.Mathlib.Omega.{arith}
+use lib.IntN.{ℤ}
+use lib.ListN.{length, replicate}
+use Rattle.cells.specs.Limits.{maxCode}
+use Rattle.program.specs.Tables.{modeCount}
+use Rattle.program.specs.Program.{programOf}
+use Rattle.code.specs.Compile.{listingOf}
+use Rattle.layout.specs.Delays.{marked}
+use Rattle.layout.specs.Layout.{startIn}
+use Rattle.runs.specs.Schedule.{scheduleCount, reaches, reach, Sorted, Behind, found, spanOf, rowsOf, blockOf}
+use Rattle.runs.specs.Round.{worstBreak, nothing}
+use Rattle.runs.proofs.Blocks.{behind-none, behind-later, found-behind, block-found}
+use Rattle.suppliers.specs.Schedule.{Tabled, partBad}
+use Rattle.suppliers.specs.Supplier.{answerFrom, judged}
+use Rattle.suppliers.proofs.Schedule.{part-bars}
+use Rattle.suppliers.proofs.Delays.{table-says}
+use Rattle.rounds.specs.Course.{courseOn}
+use Rattle.rounds.proofs.Courses.{judged-counted}
+use Rattle.worked.specs.Computed.{computed}
+use Rattle.worked.specs.Programs.{F, window, schedule}
+use Rattle.worked.proofs.Table.{F-length}
+use Rattle.worked.proofs.Instances.{F-asked, F-verdict, F-part}
+
+-- both blocks, at addresses 9 and 15
+abbrev rows : List ℤ
+rows = schedule 1 0
+
+-- the part passes 13, so it is sorted
+part-fits : partBad (F 6 2) rows 0 ≡ false
+unfolding computed
+part-fits = refl
+
+in-order : Sorted rows
+in-order = part-bars (F 6 2) rows 0 .ok part-fits .rows .sorted
+
+-- the first block ends at row 2, and no row of the second stands before
+first-end : found rows 0 0 9 .end ≡ 2
+unfolding computed reach reaches
+first-end = refl
+
+behind : Behind rows 0 15 (found rows 0 0 9 .end)
+behind = behind-later rows 0 10 15 (found rows 0 0 9 .end) (omega arith) (found-behind rows 0 9 0 (behind-none rows 0 9))
+
+-- so the second is found from there on
+pub second-block : rowsOf (spanOf rows (found rows (found rows 0 0 9 .end) 0 15)) ≡ blockOf rows 0 15
+second-block =
+    let n : scheduleCount rows ≡ 4 = refl in
+    block-found rows 0 15 (found rows 0 0 9 .end) in-order (omega (arith, first-end)) behind
+
+-- the table of F's delays
+pub F-delays : Tabled (F 6 2) (marked (listingOf (F 6 2)) 0 (replicate maxCode 0))
+F-delays = table-says (F 6 2) F-verdict (omega (arith, F-length))
+
+-- F's run, as it is counted from the tables with its one sensor
+one-sensor : 1 ≡ length (programOf (F 6 2) .sensors)
+unfolding computed
+one-sensor = refl
+
+pub F-counted :
+    answerFrom (λ m. worstBreak (courseOn (F 6 2) (window 0 10) rows 0 1 m (startIn (F 6 2) 1 m)) nothing) (modeCount (F 6 2)) 0 ≡ judged F-asked
+F-counted = judged-counted F-asked F-part 1 one-sensor
