@@ -117,9 +117,12 @@ mode P m = getD (P .modes) m (record { period = 0; units = 0; ports = []; invoca
 abbrev pub ticksOf : Mode → ℕ
 ticksOf M = M .period / M .units
 
--- the unit after unit k, around the round
+-- the unit after unit k of u, around the round
+abbrev pub nextOf : ℕ → ℕ → ℕ
+nextOf u k = elim (eqb (suc k) u) [ true ↦ 0 | false ↦ suc k ]
+
 abbrev pub nextUnit : Mode → ℕ → ℕ
-nextUnit M k = elim (eqb (suc k) (M .units)) [ true ↦ 0 | false ↦ suc k ]
+nextUnit M k = nextOf (M .units) k
 
 -- the unit at which a switch taken at unit k enters its target
 abbrev pub enteredUnit : ℕ → Switch → ℕ

@@ -13,7 +13,7 @@ use Rattle.theory.proofs.Lists.{sum-same, keep-those, map-those, those-same}
 use Rattle.theory.proofs.Members.{has-as, has-keep, member-says}
 use Rattle.program.specs.Tables.{Tables, taskCount, taskSupplier, modeCount, invocationWidth, invocationCount, invTask}
 use Rattle.program.specs.Units.{units, rowDue}
-use Rattle.program.specs.Program.{Program, Mode, Invocation, Task, programOf, task, mode, ticksOf, nextUnit, invocationRow, dueTasks}
+use Rattle.program.specs.Program.{Program, Mode, Invocation, Task, programOf, task, mode, ticksOf, nextOf, nextUnit, invocationRow, dueTasks}
 use Rattle.program.proofs.Decoded.{mode-count, mode-row, task-row, due-invocations, has-tasks}
 use Rattle.rules.specs.Verdict.{programVerdict}
 use Rattle.rules.proofs.Accepted.{accepted-fields}
@@ -27,7 +27,7 @@ use Rattle.runs.specs.Schedule.{blockOf}
 use Rattle.runs.proofs.Same.{SameCourse, judge-same}
 use Rattle.suppliers.specs.Supplier.{Asked, supplierOf, ownTasks, course, answerOf, answerFrom, judged, partVerdict}
 use Rattle.suppliers.proofs.Accepted.{part-accepted}
-use Rattle.rounds.specs.Course.{ownDue, ownRows, unitAfter, blockAt, courseOn}
+use Rattle.rounds.specs.Course.{ownDue, ownRows, blockAt, courseOn}
 
 module _ (T : Tables) (a : programVerdict T ≡ 0) where
   -- the program that the tables say
@@ -67,8 +67,7 @@ module _ (T : Tables) (a : programVerdict T ≡ 0) where
         due = dueTasks (mode (programOf T) m) k
 
     -- the unit after a unit
-    after-same : (k : ℕ) → unitAfter (units T m) k ≡ nextUnit (mode P m) k
-    unfolding unitAfter
+    after-same : (k : ℕ) → nextOf (units T m) k ≡ nextUnit (mode P m) k
     after-same k = ap (λ (M : Mode). nextUnit M k) (sym (mode-row T m l))
 
     module _ (sensors : ℕ) (e : sensors ≡ length (programOf T .sensors)) (W S : List ℤ) where

@@ -1,7 +1,7 @@
 -- What a supplier does in a mode, from the rows of the lent tables: the tasks that are released and that terminate, where each
 -- block stands. That it is the course of suppliers/specs/Supplier for an accepted program is proved in proofs/. Assumes nothing.
-use Prim.Native.Nat.{ℕ, suc, _+_, _/_, _≤_}
-use mathlib.Core.Bool.{Bool, true, false, _&&_}
+use Prim.Native.Nat.{ℕ, _+_, _/_, _≤_}
+use mathlib.Core.Bool.{Bool, _&&_}
 use mathlib.Core.List.{List}
 use lib.Dec.{eqb}
 use lib.IntN.{ℤ}
@@ -9,6 +9,7 @@ use Rattle.theory.specs.Lists.{those, sum}
 use Rattle.cells.specs.Cell.{rowsIn, fieldAt, namedAt}
 use Rattle.program.specs.Tables.{Tables, taskWidth, taskOwner, taskTime, invocationWidth, invocationTask, modePeriod}
 use Rattle.program.specs.Units.{units, rowDue}
+use Rattle.program.specs.Program.{nextOf}
 use Rattle.layout.specs.declared.counts.Counts.{Counts}
 use Rattle.layout.specs.Counts.{countsIn, beforeFuture, sizeOf}
 use Rattle.runs.specs.Tick.{Row}
@@ -27,10 +28,6 @@ abbrev pub ownRows : List ℤ → List ℤ → ℕ → ℕ → ℕ → ℕ → L
 ownRows tasks invocations s m u k =
     those (ownDue tasks invocations s m u k) (namedAt invocationWidth invocationTask invocations) (rowsIn invocationWidth invocations) 0
 
--- the unit after unit k of u, around the round
-unfoldable pub unitAfter : ℕ → ℕ → ℕ
-unitAfter u k = elim (eqb (suc k) u) [ true ↦ 0 | false ↦ suc k ]
-
 -- supplier s in mode m, which has u units of so many ticks, with these blocks
 abbrev pub courseIn : List ℤ → List ℤ → List ℤ → ℕ → ℕ → ℕ → ℕ → (ℕ → List Row) → Course
 courseIn tasks invocations W s m u ticks block = record {
@@ -38,7 +35,7 @@ courseIn tasks invocations W s m u ticks block = record {
   units = u;
   block = block;
   released = λ k. ownRows tasks invocations s m u k;
-  ending = λ k. ownRows tasks invocations s m u (unitAfter u k);
+  ending = λ k. ownRows tasks invocations s m u (nextOf u k);
   worst = fieldAt taskWidth taskTime tasks;
   window = inWindow W s m;
 }

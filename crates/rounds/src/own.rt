@@ -4,8 +4,9 @@ ghost use Prim.Native.Nat.{_<_};
 ghost use lib.ListN.{set};
 ghost use Rattle.cells.specs.Cell.{fieldAt};
 ghost use Rattle.program.specs.Tables.{taskWidth, taskTime};
+ghost use Rattle.program.specs.Program.{nextOf};
 ghost use Rattle.runs.specs.Round.{release, unfinished};
-ghost use Rattle.rounds.specs.Course.{ownDue, ownRows, unitAfter};
+ghost use Rattle.rounds.specs.Course.{ownDue, ownRows};
 use cells::columns::invocation;
 use cells::columns::task;
 use cells::kinds::Mode;
@@ -33,9 +34,9 @@ fn own_due(
 }
 
 // The unit after unit k of u, around the round.
-pub fn unit_after(u: usize, k: usize) -> usize
+pub fn next_of(u: usize, k: usize) -> usize
     requires { ⌜ k < u ⌝ }
-    ensures { λ r. ⌜ r ≡ unitAfter u k ⌝ }
+    ensures { λ r. ⌜ r ≡ nextOf u k ⌝ }
 {
     if k + 1 == u {
         return 0;

@@ -45,7 +45,7 @@ pub fn one_unit(
         };
     }
     let rest = end.left;
-    let next = own::unit_after(u, k);
+    let next = own::next_of(u, k);
     if own::unended(tasks, invocations, supplier, m, u, next, &rest) {
         return Ended {
             number: 15,

@@ -21,7 +21,7 @@ use Rattle.theory.proofs.Bools.{is-true, is-false, says-lt, says-le, says-eq, s
 use Rattle.cells.specs.Cell.{cellAt, numAt, nameAt}
 use Rattle.runs.specs.Tick.{Row}
 use Rattle.runs.specs.declared.block.Span.{Span}
-use Rattle.runs.specs.Schedule.{scheduleWidth, scheduleCount, rowSupplier, rowAddress, rowOf, rowsOf, blockOf, Sorted, reaches, Behind, reach, found, spanOf}
+use Rattle.runs.specs.Schedule.{scheduleWidth, kindColumn, taskColumn, timeoutColumn, scheduleCount, rowSupplier, rowAddress, rowOf, rowsOf, blockOf, Sorted, reaches, Behind, reach, found, spanOf}
 
 module _ (S : List ℤ) (from s a : ℕ) where
   -- a search that meets a row that reaches ends there
@@ -147,9 +147,9 @@ module _ (S : List ℤ) (at : Span) where
   part-row : (i : ℕ) → i < at .end - at .begin → rowOf (spanOf S at) i ≡ rowOf S (at .begin + i)
   unfolding numAt nameAt
   part-row i l =
-      let k = part-cell i 2 l (omega arith) in
-      let t = part-cell i 3 l (omega arith) in
-      let o = part-cell i 4 l (omega arith) in
+      let k = part-cell i kindColumn l (omega arith) in
+      let t = part-cell i taskColumn l (omega arith) in
+      let o = part-cell i timeoutColumn l (omega arith) in
       simp (k, t, o) refl
 
   -- so many rows

@@ -16,23 +16,39 @@ use Rattle.runs.specs.declared.block.Span.{Span}
 abbrev pub scheduleWidth : ℕ
 scheduleWidth = 5
 
+-- its columns
+abbrev pub supplierColumn : ℕ
+supplierColumn = 0
+
+abbrev pub addressColumn : ℕ
+addressColumn = 1
+
+abbrev pub kindColumn : ℕ
+kindColumn = 2
+
+abbrev pub taskColumn : ℕ
+taskColumn = 3
+
+abbrev pub timeoutColumn : ℕ
+timeoutColumn = 4
+
 abbrev pub scheduleCount : List ℤ → ℕ
 scheduleCount S = rowsIn scheduleWidth S
 
 abbrev pub rowSupplier : List ℤ → ℕ → ℕ
-rowSupplier S = fieldAt scheduleWidth 0 S
+rowSupplier S = fieldAt scheduleWidth supplierColumn S
 
 abbrev pub rowAddress : List ℤ → ℕ → ℕ
-rowAddress S = fieldAt scheduleWidth 1 S
+rowAddress S = fieldAt scheduleWidth addressColumn S
 
 abbrev pub rowKind : List ℤ → ℕ → ℕ
-rowKind S = fieldAt scheduleWidth 2 S
+rowKind S = fieldAt scheduleWidth kindColumn S
 
 abbrev pub rowTask : List ℤ → ℕ → ℕ
-rowTask S = namedAt scheduleWidth 3 S
+rowTask S = namedAt scheduleWidth taskColumn S
 
 abbrev pub rowTimeout : List ℤ → ℕ → ℕ
-rowTimeout S = fieldAt scheduleWidth 4 S
+rowTimeout S = fieldAt scheduleWidth timeoutColumn S
 
 abbrev pub kindDispatch : ℕ
 kindDispatch = 0

@@ -36,8 +36,8 @@ returns c =
     let s = c .before .before .before in
     unit-outside (run s) (s .args .k) (s .args .left) (c .before .before .released .ensures) (c .before .watch .ensures) (c .if1 .taken)
 
-unit-after-requires : tie.Need-unit-after-requires
-unit-after-requires c κs = search needs
+next-of-requires : tie.Need-next-of-requires
+next-of-requires c κs = search needs
 
 slice-aggregate-unended : tie.Need-slice-aggregate-unended
 slice-aggregate-unended c = search needs
@@ -59,7 +59,7 @@ returns-2 c =
     let a = s .args in
     unit-late (run s) (a .k) (a .left) (c .before .before .before .before .before .before .before .released .ensures) (c .before .before .before .before .before .before .watch .ensures)
     (c .before .before .before .before .before .if1 .left)
-    (ap (ownRows (a .tasks .now) (a .invocations .now) (a .supplier) (a .m .0) (a .u)) (c .before .before .before .unit-after .ensures))
+    (ap (ownRows (a .tasks .now) (a .invocations .now) (a .supplier) (a .m .0) (a .u)) (c .before .before .before .next-of .ensures))
     (c .before .unended .ensures) (c .if2 .taken) (ap (λ (n : ℕ). n * a .ticks) (add-one (a .k)))
 
 returns-3 : tie.Need-returns-3
@@ -68,7 +68,7 @@ returns-3 c =
     let a = s .args in
     unit-went (run s) (a .k) (a .left) (c .before .before .before .before .before .before .before .released .ensures) (c .before .before .before .before .before .before .watch .ensures)
     (c .before .before .before .before .before .if1 .left)
-    (ap (ownRows (a .tasks .now) (a .invocations .now) (a .supplier) (a .m .0) (a .u)) (c .before .before .before .unit-after .ensures))
+    (ap (ownRows (a .tasks .now) (a .invocations .now) (a .supplier) (a .m .0) (a .u)) (c .before .before .before .next-of .ensures))
     (c .before .unended .ensures) (c .if2 .left)
 
 pub one-unit-spec : {M : Type 1} → statement M
@@ -79,7 +79,7 @@ one-unit-spec =
     mul-watch
     watch-requires
     returns
-    unit-after-requires
+    next-of-requires
     slice-aggregate-unended
     unended-requires
     add-t21

@@ -1,22 +1,20 @@
--- `rounds::own::unit_after` meets its contract: unit 0 comes after the last one. Assumes nothing.
+-- `rounds::own::next_of` meets its contract: unit 0 comes after the last one. Assumes nothing.
 use Prim.Native.Nat.{ℕ, suc, _+_}
 use mathlib.Core.Path.{_≡_, sym, _∙_}
 use mathlib.Core.Bool.{true, false}
 use native.Mathlib.Numerals.{add-one}
 use borrow.Author.Needs.{needs}
 use borrow.Author.Tests.{eq-eqb, ne-eqb}
-use Rattle.rounds.specs.Course.{unitAfter}
-use Rattle.rounds.proofs.own.unit_after.Statement.{statement}
-use Rattle.rounds.proofs.own.unit_after.Tie as tie
+use Rattle.program.specs.Program.{nextOf}
+use Rattle.rounds.proofs.own.next_of.Statement.{statement}
+use Rattle.rounds.proofs.own.next_of.Tie as tie
 
 -- unit k is the last one
-last : (u k : ℕ) → k + 1 ≡ u → 0 ≡ unitAfter u k
-unfolding unitAfter
+last : (u k : ℕ) → k + 1 ≡ u → 0 ≡ nextOf u k
 last u k e = let q = eq-eqb (suc k) u (sym (add-one k) ∙ e) in λ j. elim (sym q j) [ true ↦ 0 | false ↦ suc k ]
 
 -- it is not
-not-last : (u k : ℕ) → (k + 1 ≡ u → ⊥) → k + 1 ≡ unitAfter u k
-unfolding unitAfter
+not-last : (u k : ℕ) → (k + 1 ≡ u → ⊥) → k + 1 ≡ nextOf u k
 not-last u k h =
     let q = ne-eqb (suc k) u (λ e. h (add-one k ∙ e)) in add-one k ∙ (λ j. elim (sym q j) [ true ↦ 0 | false ↦ suc k ])
 
@@ -32,5 +30,5 @@ add-result c = search needs
 returns-2 : tie.Need-returns-2
 returns-2 c = not-last _ _ (c .if1 .left)
 
-pub unit-after-spec : {M : Type 1} → statement M
-unit-after-spec = tie.close (tie.spec add-if1 returns add-result returns-2)
+pub next-of-spec : {M : Type 1} → statement M
+next-of-spec = tie.close (tie.spec add-if1 returns add-result returns-2)
