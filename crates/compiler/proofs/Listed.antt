@@ -16,12 +16,12 @@ use Rattle.program.specs.Program.{Program, Mode, Switch, programOf, mode, ticks
 use Rattle.program.proofs.Decoded.{mode-count, mode-row, sensors-rows}
 use Rattle.rules.specs.Verdict.{programVerdict}
 use Rattle.code.specs.Op.{Op, jump, future, return}
-use Rattle.code.specs.Listing.{blockSize, modeSize, modeAddress, blockAddress, entryAddress, futureAddress, headOf, testsOf, bodyOf, endOf, stubsOf, blockCode, modeCode, listing}
+use Rattle.code.specs.Listing.{blockSize, modeAddress, blockAddress, entryAddress, futureAddress, headOf, testsOf, bodyOf, endOf, stubsOf, blockCode, modeCode, listing}
 use Rattle.code.specs.Compile.{listingOf}
 use Rattle.code.proofs.Accepted.{accepted-aims}
 use Rattle.layout.specs.Counts.{countsOf, beforeFuture, sizeOf}
 use Rattle.layout.proofs.Sizes.{future-counted}
-use Rattle.layout.proofs.Laid.{counts-mode, size-mode}
+use Rattle.layout.proofs.Laid.{counts-mode, start-mode}
 use Rattle.compiler.specs.Written.{Words, three}
 use Rattle.compiler.specs.Switches.{switchesIn, stubsIn}
 use Rattle.compiler.specs.Block.{countsAt, nextIn, blockIn, blockStart}
@@ -110,7 +110,7 @@ module _ (T : Tables) where
 
     -- a mode stands where it does in the listing
     start-same : (m : ℕ) → m < modeCount T → modeStart T m ≡ modeAddress P m
-    start-same m l = ap (λ (n : ℕ). 1 + n) (sum-same _ (λ i. modeSize P (mode P i)) m (λ i h. size-mode T read read-all i (omega arith)))
+    start-same m l = start-mode T read read-all m (omega arith)
 
     -- all is the listing
     pub all-same : (first : ℕ) → first ≡ blockAddress P (startMode T) 0 → allIn T entries first ≡ map three (listingOf T)

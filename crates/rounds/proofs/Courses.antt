@@ -10,11 +10,10 @@ use lib.IntN.{ℤ}
 use lib.ListN.{length}
 use Rattle.theory.specs.Lists.{those, keep, member}
 use Rattle.theory.proofs.Lists.{sum-same, keep-those, map-those, those-same}
-use Rattle.theory.proofs.Members.{has-as, has-keep, member-says}
 use Rattle.program.specs.Tables.{Tables, taskCount, taskSupplier, modeCount, invocationWidth, invocationCount, invTask}
 use Rattle.program.specs.Units.{units, rowDue}
 use Rattle.program.specs.Program.{Program, Mode, Invocation, Task, programOf, task, mode, ticksOf, nextOf, nextUnit, invocationRow, dueTasks}
-use Rattle.program.proofs.Decoded.{mode-count, mode-row, task-row, due-invocations, has-tasks}
+use Rattle.program.proofs.Decoded.{mode-count, mode-row, task-row, due-invocations}
 use Rattle.rules.specs.Verdict.{programVerdict}
 use Rattle.rules.proofs.Accepted.{accepted-fields}
 use Rattle.code.specs.Listing.{blockSize, futureAddress}
@@ -26,7 +25,7 @@ use Rattle.runs.specs.Round.{Course, worstCase, Break, none, outside, late, jud
 use Rattle.runs.specs.Schedule.{blockOf}
 use Rattle.runs.proofs.Same.{SameCourse, judge-same}
 use Rattle.suppliers.specs.Supplier.{Asked, supplierOf, ownTasks, course, answerOf, answerFrom, judged, partVerdict}
-use Rattle.suppliers.proofs.Accepted.{part-accepted}
+use Rattle.suppliers.proofs.Accepted.{own-declared, part-accepted}
 use Rattle.rounds.specs.Course.{ownDue, ownRows, blockAt, courseOn}
 
 module _ (T : Tables) (a : programVerdict T ≡ 0) where
@@ -55,16 +54,9 @@ module _ (T : Tables) (a : programVerdict T ≡ 0) where
         ∙ sym (ap (keep (λ t. eqb (task P t .supplier) s)) (due-named k)
         ∙ keep-those (λ t. eqb (task P t .supplier) s) (rowDue invocationWidth (T .invocations) m (units T m) k) (invTask T) (invocationCount T) 0)
 
-    -- a task of the mode that is due is declared
-    own-declared : (k j : ℕ) → member j (ownRows (T .tasks) (T .invocations) s m (units T m) k) ≡ true → j < taskCount T
-    own-declared k j r =
-        let h = member-says j (ownTasks P s due) .yes (subst (λ (js : List ℕ). member j js ≡ true) (own-rows k) r) in
-        let w = has-tasks T m k l (λ x. j ≡ x) .0
-        (has-as (λ x. (eqb (task P x .supplier) s ≡ true) × (j ≡ x)) (λ x. j ≡ x) due (λ x q. q .1) (has-keep (λ x. j ≡ x) (λ x. eqb (task P x .supplier) s) due .0 h)) in
-        omega (arith, w .4, accepted-fields T a .invocations (w .0) (w .1) .task)
-      where
-        due : List ℕ
-        due = dueTasks (mode (programOf T) m) k
+    -- so a task of the supplier that is due is declared
+    rows-declared : (k j : ℕ) → member j (ownRows (T .tasks) (T .invocations) s m (units T m) k) ≡ true → j < taskCount T
+    rows-declared k j r = own-declared T a s m k j l (subst (λ (js : List ℕ). member j js ≡ true) (own-rows k) r)
 
     -- the unit after a unit
     after-same : (k : ℕ) → nextOf (units T m) k ≡ nextUnit (mode P m) k
@@ -103,7 +95,7 @@ module _ (T : Tables) (a : programVerdict T ≡ 0) where
       break-same : worstBreak C nothing ≡ worstBreak D nothing
       break-same =
           judge-same C D course-same (worstCase C) (worstCase D)
-          (λ k j h. ap (λ (t : Task). t .worst) (sym (task-row T j (own-declared k j h)))) (C .units) 0 nothing
+          (λ k j h. ap (λ (t : Task). t .worst) (sym (task-row T j (rows-declared k j h)))) (C .units) 0 nothing
           ∙ ap (λ (u : ℕ). judge D (worstCase D) u 0 nothing) (course-same .units)
 
 -- answers over modes that break alike are the same

@@ -15,7 +15,7 @@ use lib.Seq.{length-take-le, getD-take, getD-drop}
 use Rattle.theory.specs.Claim.{Says}
 use Rattle.theory.specs.Search.{firstFrom}
 use Rattle.theory.specs.Lists.{those, each}
-use Rattle.theory.proofs.Search.{Finds, finds}
+use Rattle.theory.proofs.Search.{from-here, from-next, Finds, finds}
 use Rattle.theory.proofs.Lists.{those-split, those-none, those-each, each-same}
 use Rattle.theory.proofs.Bools.{is-true, is-false, says-lt, says-le, says-eq, says-and, says-or}
 use Rattle.cells.specs.Cell.{cellAt, numAt, nameAt}
@@ -26,17 +26,17 @@ use Rattle.runs.specs.Schedule.{scheduleWidth, kindColumn, taskColumn, t
 module _ (S : List ℤ) (from s a : ℕ) where
   -- a search that meets a row that reaches ends there
   pub reach-here : from < scheduleCount S → reaches S s a from ≡ true → reach S from s a ≡ from
-  unfolding reach firstFrom
+  unfolding reach
   reach-here l e =
       let z : scheduleCount S - from ≡ suc (scheduleCount S - (from + 1)) = omega arith in
-      ap (λ (k : ℕ). firstFrom (reaches S s a) k from) z ∙ rw (e, firstFrom)
+      ap (λ (k : ℕ). firstFrom (reaches S s a) k from) z ∙ from-here (reaches S s a) (scheduleCount S - (from + 1)) from e
 
   -- it passes over one that does not
   pub reach-next : from < scheduleCount S → reaches S s a from ≡ false → reach S from s a ≡ reach S (from + 1) s a
-  unfolding reach firstFrom
+  unfolding reach
   reach-next l e =
       let z : scheduleCount S - from ≡ suc (scheduleCount S - (from + 1)) = omega arith in
-      ap (λ (k : ℕ). firstFrom (reaches S s a) k from) z ∙ rw (e, firstFrom)
+      ap (λ (k : ℕ). firstFrom (reaches S s a) k from) z ∙ from-next (reaches S s a) (scheduleCount S - (from + 1)) from e
 
   -- past the last row it stays
   pub reach-end : scheduleCount S ≤ from → reach S from s a ≡ from

@@ -1,11 +1,13 @@
--- A supplier's part that is not refused by 1 to 13: the program is accepted, and every task of it that is released takes time.
--- Assumes that the verdict on the part is 0; of `windows-accepted` and `part-after`, that the windows verdict is.
+-- What has its shape; a supplier's part that is not refused by 1 to 13: the program is accepted, and every task of it that is released
+-- is declared and takes time. Assumes that the verdict on the part is 0; of `windows-accepted` and `part-after`, that the windows
+-- verdict is; of `own-declared`, that the program is accepted; of what has its shape, that number 1 does not apply.
 use Prim.Native.Nat.{ℕ, _<_}
 use mathlib.Core.Path.{_≡_}
-use mathlib.Core.Bool.{true, _||_}
+use mathlib.Core.Bool.{true, false, _||_}
 use mathlib.Core.List.{List, [], _∷_, _++_, map}
 use native.Mathlib.Omega.{arith}
 use lib.Dec.{eqb}
+use Rattle.theory.specs.Lists.{member}
 use Rattle.theory.specs.Verdict.{Refusal, orElse, within}
 use Rattle.theory.proofs.Bools.{neither}
 use Rattle.theory.proofs.Verdict.{verdict-clear, verdict-skip}
@@ -25,12 +27,20 @@ use Rattle.suppliers.specs.Windows.{Windowed, windowsBad, windowsShapeBa
 use Rattle.suppliers.specs.Schedule.{partBad}
 use Rattle.suppliers.specs.Supplier.{Asked, supplierOf, ownTasks, courseOf, partShapeBad, windowedOf, ownRefusals, partVerdict}
 
+-- tables and windows that have their shape; a part that has it
+pub windows-shaped : (L : Windowed) → windowsShapeBad L ≡ false → shapeBad (L .tables) ≡ false
+unfolding windowsShapeBad
+windows-shaped L e = neither (shapeBad (L .tables)) (badSlice windowWidth maxWindows (L .windows)) e .0
+
+pub part-shaped : (L : Asked) → partShapeBad L ≡ false → windowsShapeBad (windowedOf L) ≡ false
+unfolding partShapeBad windowsShapeBad
+part-shaped L e = neither (windowsShapeBad (windowedOf L)) (badSlice scheduleWidth maxPart (L .part)) e .0
+
 -- windows are accepted only with their program
 pub windows-accepted : (L : Windowed) → windowsVerdict L ≡ 0 → programVerdict (L .tables) ≡ 0
-unfolding windowsVerdict windowsShapeBad
+unfolding windowsVerdict
 windows-accepted L e =
-    lent-accepted (λ (L : Windowed). L .tables) windowsShapeBad (within (λ L. L .tables) longRefusal ∷ windowRefusals) L
-    (λ s. neither (shapeBad (L .tables)) (badSlice windowWidth maxWindows (L .windows)) s .0) e
+    lent-accepted (λ (L : Windowed). L .tables) windowsShapeBad (within (λ L. L .tables) longRefusal ∷ windowRefusals) L (windows-shaped L) e
 
 -- what the verdict on a part asks between number 1 and number 13
 abbrev between : List (Refusal Asked)
@@ -47,35 +57,31 @@ part-after L e =
     λ i. orElse (c .0 i || badSlice scheduleWidth maxPart (L .part)) 1
     (verdict-skip between (record { number = 13; applies = λ L. partBad (L .tables) (L .part) (supplierOf L) } ∷ []) L (c .1) i)
 
+-- a task of a supplier that is due in a declared mode of an accepted program is declared
+pub own-declared : (T : Tables) → programVerdict T ≡ 0 → (s m k j : ℕ) → m < modeCount T
+    → member j (ownTasks (programOf T) s (dueTasks (mode (programOf T) m) k)) ≡ true → j < taskCount T
+own-declared T v s m k j l r =
+    let h : Has (λ x. j ≡ x) (ownTasks P s due) = member-says j (ownTasks P s due) .yes r in
+    let w = has-tasks T m k l (λ x. j ≡ x) .0
+    (has-as (λ x. (eqb (task P x .supplier) s ≡ true) × (j ≡ x)) (λ x. j ≡ x) due (λ x q. q .1) (has-keep (λ x. j ≡ x) (λ x. eqb (task P x .supplier) s) due .0 h)) in
+    omega (arith, w .4, accepted-fields T v .invocations (w .0) (w .1) .task)
+  where
+    P : Program
+    P = programOf T
+
+    due : List ℕ
+    due = dueTasks (mode (programOf T) m) k
+
 module _ (L : Asked) (a : partVerdict L ≡ 0) where
   -- the program is accepted
   pub part-accepted : programVerdict (L .tables) ≡ 0
-  unfolding partVerdict partShapeBad
+  unfolding partVerdict
   part-accepted =
       lent-accepted (λ (L : Asked). L .tables) partShapeBad (within (λ L. L .tables) longRefusal ∷ ownRefusals) L
-      (λ e.
-      neither (shapeBad (L .tables)) (badSlice windowWidth maxWindows (L .windows))
-      (neither (shapeBad (L .tables) || badSlice windowWidth maxWindows (L .windows)) (badSlice scheduleWidth maxPart (L .part)) e .0) .0)
-      a
+      (λ e. windows-shaped (windowedOf L) (part-shaped L e)) a
 
   -- in every declared mode, each released task of the supplier takes at least one tick
   pub part-some-time : (m : ℕ) → m < modeCount (L .tables) → SomeTime (courseOf L m)
   part-some-time m l k j r =
-      let h : Has (λ x. j ≡ x) (ownTasks P s due) = member-says j (ownTasks P s due) .yes r in
-      let w = has-tasks T m k l (λ x. j ≡ x) .0
-      (has-as (λ x. (eqb (task P x .supplier) s ≡ true) × (j ≡ x)) (λ x. j ≡ x) due (λ x q. q .1) (has-keep (λ x. j ≡ x) (λ x. eqb (task P x .supplier) s) due .0 h)) in
-      let f = accepted-fields T part-accepted in
-      let b : j < taskCount T = omega (arith, w .4, f .invocations (w .0) (w .1) .task) in
-      rw (task-row T j b) (f .tasks j b .worst .0)
-    where
-      T : Tables
-      T = L .tables
-
-      P : Program
-      P = programOf (L .tables)
-
-      s : ℕ
-      s = supplierOf L
-
-      due : List ℕ
-      due = dueTasks (mode (programOf (L .tables)) m) k
+      let T = L .tables in
+      let b = own-declared T part-accepted (supplierOf L) m k j l r in rw (task-row T j b) (accepted-fields T part-accepted .tasks j b .worst .0)

@@ -52,11 +52,11 @@ module _ (p : ℕ → Bool) where
       go false f = f
 
   -- what the search from i on finds, step by step
-  from-here : (n i : ℕ) → p i ≡ true → firstFrom p (suc n) i ≡ i
+  pub from-here : (n i : ℕ) → p i ≡ true → firstFrom p (suc n) i ≡ i
   unfolding firstFrom
   from-here n i e = rw (e, firstFrom)
 
-  from-next : (n i : ℕ) → p i ≡ false → firstFrom p (suc n) i ≡ firstFrom p n (i + 1)
+  pub from-next : (n i : ℕ) → p i ≡ false → firstFrom p (suc n) i ≡ firstFrom p n (i + 1)
   unfolding firstFrom
   from-next n i e = rw (e, firstFrom)
 

@@ -1,35 +1,32 @@
 -- `acceptance::supplier_verdict` meets its contract: 1, what both calls ask, 13, then the run of every mode as it was counted; the start
 -- mode and the supplier go through their bits once. Assumes nothing.
 use Prim.Native.Nat.{ℕ}
-use mathlib.Core.Path.{_≡_, refl, sym, ap, subst, _∙_}
-use mathlib.Core.Bool.{false, _||_}
+use mathlib.Core.Path.{_≡_, refl, sym, ap, ap₂, subst, _∙_}
+use mathlib.Core.Bool.{Bool, false, _||_}
 use native.Mathlib.Omega.{arith}
 use mir.Syntax.{w32}
 use mir.Val.{toZ, ofZ}
 use lib.IntN.{ℤ}
 use lib.ListN.{length}
 use borrow.Author.Needs.{needs}
-use Rattle.theory.proofs.Bools.{neither}
 use Rattle.theory.proofs.Conditions.{or-else-yes, or-else-no}
 use Rattle.cells.specs.Cell.{indexOf}
-use Rattle.cells.specs.Limits.{maxWindows, maxPart}
 use Rattle.cells.proofs.Ints.{back}
 use Rattle.program.specs.Tables.{Tables, tables, modeCount}
 use Rattle.program.proofs.Decoded.{sensors-rows}
-use Rattle.rules.specs.Shape.{badSlice, shapeBad}
+use Rattle.rules.specs.Shape.{shapeBad}
 use Rattle.rules.specs.Verdict.{programVerdict}
 use Rattle.rules.proofs.Shape.{shape-bars, ports-few}
 use Rattle.rules.proofs.Accepted.{accepted-fields}
 use Rattle.code.specs.Compile.{CodeFits}
 use Rattle.layout.specs.Layout.{startIn}
 use Rattle.layout.proofs.Limits.{few-rows, few-modes, few-sensors}
-use Rattle.runs.specs.Windows.{windowWidth}
-use Rattle.runs.specs.Schedule.{scheduleWidth}
 use Rattle.runs.specs.Round.{worstBreak, nothing}
 use Rattle.suppliers.specs.Windows.{windowsShapeBad}
 use Rattle.suppliers.specs.Schedule.{partBad}
 use Rattle.suppliers.specs.Supplier.{Asked, supplierOf, windowedOf, answerFrom, partShapeBad, partVerdict}
 use Rattle.suppliers.proofs.Schedule.{part-bars}
+use Rattle.suppliers.proofs.Accepted.{windows-shaped, part-shaped}
 use Rattle.rounds.specs.Course.{courseOn}
 use Rattle.rounds.proofs.Courses.{judged-counted}
 use Rattle.acceptance.specs.Lent.{windowed, asked, shapedVerdict}
@@ -43,29 +40,24 @@ with-start c z =
     tables (c .args .ports .now) (c .args .tasks .now) (c .args .task-ports .now) (c .args .drivers .now) (c .args .copies .now) (c .args .modes .now)
     (c .args .mode-ports .now) (c .args .invocations .now) (c .args .updates .now) (c .args .switches .now) z
 
+abbrev lent-with : tie.Start → ℤ → Asked
+lent-with c z = asked (with-start c z) (c .args .windows .now) (c .args .part .now) (c .args .supplier)
+
 abbrev lent : tie.Start → Asked
-lent c = asked (with-start c (c .args .start)) (c .args .windows .now) (c .args .part .now) (c .args .supplier)
+lent c = lent-with c (c .args .start)
 
 -- number 1, whatever the start mode
-shape : (c : tie.After-bad-slice) (z : ℤ) → (c .before .shape-bad .result || c .bad-slice .result)
-    ≡ (windowsShapeBad (windowed (with-start (c .before .before) z) (lent (c .before .before) .windows)) || badSlice scheduleWidth maxPart (lent (c .before .before) .part))
-shape c z = λ i. c .before .shape-bad .ensures z i || c .bad-slice .ensures i
-
-shape-told : (c : tie.After-bad-slice) → (c .before .shape-bad .result || c .bad-slice .result) ≡ partShapeBad (lent (c .before .before))
+shape-told : (c : tie.After-bad-slice) (z : ℤ) → (c .before .shape-bad .result || c .bad-slice .result) ≡ partShapeBad (lent-with (c .before .before) z)
 unfolding partShapeBad windowsShapeBad
-shape-told c = shape c (c .before .before .args .start)
+shape-told c z = ap₂ (λ (a b : Bool). a || b) (c .before .shape-bad .ensures z) (c .bad-slice .ensures)
 
 -- it did not apply
-shaped : (c : tie.Else1) → partShapeBad (lent (c .before .before .before)) ≡ false
-shaped c = sym (shape-told (c .before)) ∙ c .if1 .left
+shaped : (c : tie.Else1) (z : ℤ) → partShapeBad (lent-with (c .before .before .before) z) ≡ false
+shaped c z = sym (shape-told (c .before) z) ∙ c .if1 .left
 
 tables-shaped : (c : tie.Else1) (z : ℤ) → shapeBad (with-start (c .before .before .before) z) ≡ false
-unfolding windowsShapeBad
 tables-shaped c z =
-    let s = c .before .before .before in
-    let T = with-start s z in
-    neither (shapeBad T) (badSlice windowWidth maxWindows (lent s .windows))
-    (neither (windowsShapeBad (windowed T (lent s .windows))) (badSlice scheduleWidth maxPart (lent s .part)) (sym (shape (c .before) z) ∙ c .if1 .left) .0) .0
+    let L = lent-with (c .before .before .before) z in windows-shaped (windowedOf L) (part-shaped L (shaped c z))
 
 -- the number that both calls ask for; the start mode came back through its bits
 told : (c : tie.After-shaped-verdict) → c .shaped-verdict .result ≡ shapedVerdict (windowedOf (lent (c .before .before .before .before)))
@@ -110,7 +102,7 @@ part-fits c = sym (part-told (c .before)) ∙ c .if3 .left
 part-passed : (c : tie.Else3) → partVerdict (lent (c .before .before .before .before .before .before .before .before)) ≡ 0
 part-passed c =
     let e = c .before .before .before in
-    part-own (lent (e .before .before .before .before .before)) (shaped (e .before .before)) (none e) ∙ or-else-no 13 0 (part-fits c)
+    let L = lent (e .before .before .before .before .before) in part-own L (shaped (e .before .before) (L .tables .start)) (none e) ∙ or-else-no 13 0 (part-fits c)
 
 shape-bad-requires : tie.Need-shape-bad-requires
 shape-bad-requires c κs = search needs
@@ -124,7 +116,7 @@ refusal-requires c κs = search needs
 returns : tie.Need-returns
 returns c =
     let L = lent (c .before .before .before .before) in
-    c .refusal .ensures ∙ supplier-refused L 1 (part-one L (sym (shape-told (c .before .before)) ∙ c .before .if1 .taken)) (λ z. omega arith)
+    c .refusal .ensures ∙ supplier-refused L 1 (part-one L (sym (shape-told (c .before .before) (L .tables .start)) ∙ c .before .if1 .taken)) (λ z. omega arith)
 
 shaped-verdict-requires : tie.Need-shaped-verdict-requires
 shaped-verdict-requires c κs = tables-shaped c (toZ w32 (ofZ w32 (c .before .before .before .args .start)))
@@ -137,7 +129,7 @@ returns-2 c =
     let v = c .before .before in
     let L = lent (v .before .before .before .before) in
     c .refusal2 .ensures
-    ∙ supplier-refused L (v .shaped-verdict .result) (part-given L (shaped (v .before)) (v .shaped-verdict .result) (told v) (c .before .if2 .taken))
+    ∙ supplier-refused L (v .shaped-verdict .result) (part-given L (shaped (v .before) (L .tables .start)) (v .shaped-verdict .result) (told v) (c .before .if2 .taken))
     (λ z. omega (arith, c .before .if2 .taken))
 
 index-requires : tie.Need-index-requires
@@ -159,7 +151,7 @@ returns-3 c =
     let L = lent (e .before .before .before .before .before) in
     c .refusal3 .ensures
     ∙ supplier-refused L 13
-    (part-own L (shaped (e .before .before)) (none e) ∙ or-else-yes 13 0 (sym (part-told (c .before .before)) ∙ c .before .if3 .taken))
+    (part-own L (shaped (e .before .before) (L .tables .start)) (none e) ∙ or-else-yes 13 0 (sym (part-told (c .before .before)) ∙ c .before .if3 .taken))
     (λ z. omega arith)
 
 sensors-requires : tie.Need-sensors-requires

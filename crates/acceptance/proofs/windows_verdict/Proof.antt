@@ -4,14 +4,11 @@ use mir.Syntax.{w32}
 use mir.Val.{toZ, ofZ}
 use lib.IntN.{ℤ}
 use borrow.Author.Needs.{needs}
-use Rattle.theory.proofs.Bools.{neither}
 use Rattle.theory.proofs.Conditions.{or-else-yes, or-else-no}
 use Rattle.cells.proofs.Ints.{back}
-use Rattle.cells.specs.Limits.{maxWindows}
 use Rattle.program.specs.Tables.{Tables, tables}
-use Rattle.rules.specs.Shape.{badSlice, shapeBad}
-use Rattle.runs.specs.Windows.{windowWidth}
-use Rattle.suppliers.specs.Windows.{Windowed, windowsShapeBad}
+use Rattle.suppliers.specs.Windows.{Windowed}
+use Rattle.suppliers.proofs.Accepted.{windows-shaped}
 use Rattle.acceptance.specs.Lent.{windowed, shapedVerdict}
 use Rattle.acceptance.proofs.Calls.{windows-number}
 use Rattle.acceptance.proofs.windows_verdict.Statement.{statement}
@@ -36,11 +33,10 @@ returns c =
     sym (windows-number L ∙ or-else-yes 1 (shapedVerdict L) (sym (c .before .shape-bad .ensures (s .args .start)) ∙ c .if1 .taken))
 
 shaped-verdict-requires : tie.Need-shaped-verdict-requires
-unfolding windowsShapeBad
 shaped-verdict-requires c κs =
     let s = c .before .before in
     let T = with-start s (toZ w32 (ofZ w32 (s .args .start))) in
-    neither (shapeBad T) (badSlice windowWidth maxWindows (s .args .windows .now)) (sym (c .before .shape-bad .ensures (T .start)) ∙ c .if1 .left) .0
+    windows-shaped (windowed T (s .args .windows .now)) (sym (c .before .shape-bad .ensures (T .start)) ∙ c .if1 .left)
 
 returns-2 : tie.Need-returns-2
 returns-2 c =
