@@ -3,32 +3,19 @@
 use Prim.Native.Nat.{ℕ, zero, suc, _<_}
 use mathlib.Core.Path.{_≡_, refl, sym, ap, _∙_}
 use mathlib.Core.Bool.{Bool, true, false}
-use mathlib.Core.List.{List, [], _∷_, _++_, map}
-use native.Mathlib.Omega.{arith}
-use lib.ListN.{length}
-use borrow.Author.Tests.{ltb-false}
-use Rattle.theory.specs.Verdict.{Refusal, orElse, within, verdict}
+use Rattle.theory.specs.Verdict.{orElse}
 use Rattle.theory.proofs.Conditions.{or-else-yes, or-else-no}
-use Rattle.theory.proofs.Verdict.{after, after-given, after-none, verdict-clear, verdict-append, verdict-both, verdict-within}
-use Rattle.cells.specs.Limits.{maxCode}
-use Rattle.program.specs.Tables.{Tables}
+use Rattle.theory.proofs.Verdict.{after, after-given, after-none}
 use Rattle.rules.specs.Shape.{shapeBad}
-use Rattle.rules.specs.Verdict.{tableRefusals, programVerdict}
-use Rattle.code.specs.Compile.{listingOf, codeLong, longRefusal, CodeFits}
+use Rattle.rules.specs.Verdict.{programVerdict}
+use Rattle.code.specs.Compile.{CodeFits}
 use Rattle.lent.specs.Tables.{lentVerdict}
+use Rattle.lent.proofs.Asked.{lent-first, lent-none}
 use Rattle.suppliers.specs.declared.Answer.{Answer}
 use Rattle.suppliers.specs.Windows.{Windowed, windowsBad, windowsShapeBad, windowRefusals, windowsVerdict}
 use Rattle.suppliers.specs.Schedule.{partBad}
 use Rattle.suppliers.specs.Supplier.{Asked, supplierOf, windowedOf, partShapeBad, ownRefusals, partVerdict, judged, supplierVerdict}
 use Rattle.acceptance.specs.Lent.{shapedVerdict, refusal}
-
--- what a call asks of the tables after its own 1, and then of its own
-lent-first : {A : Type 0} (tables : A → Tables) (own : List (Refusal A)) (x : A)
-    → verdict (map (within tables) (tableRefusals ++ (longRefusal ∷ [])) ++ own) x ≡ after (lentVerdict (tables x)) (verdict own x)
-unfolding lentVerdict
-lent-first tables own x =
-    verdict-append (map (within tables) (tableRefusals ++ (longRefusal ∷ []))) own x (omega arith)
-    ∙ ap (λ (n : ℕ). after n (verdict own x)) (verdict-within tables (tableRefusals ++ (longRefusal ∷ [])) x)
 
 -- the windows verdict: 1, then what both calls ask
 pub windows-number : (L : Windowed) → windowsVerdict L ≡ orElse (windowsShapeBad L) 1 (shapedVerdict L)
@@ -52,12 +39,8 @@ part-number L =
 
 -- tables and windows with their shape that no number up to 12 refuses: the program is accepted, and its code is within the limit
 pub shaped-accepted : (L : Windowed) → shapeBad (L .tables) ≡ false → shapedVerdict L ≡ 0 → (programVerdict (L .tables) ≡ 0) × CodeFits (L .tables)
-unfolding shapedVerdict lentVerdict programVerdict codeLong
-shaped-accepted L s e =
-    let T = L .tables in
-    let v = verdict-both tableRefusals (longRefusal ∷ []) T (omega arith) (after-none _ _ e .0) in
-    let f = verdict-clear (longRefusal ∷ []) T (omega arith) (v .1) .0 in
-    (or-else-no 1 (verdict tableRefusals T) s ∙ v .0, ltb-false maxCode (length (listingOf T)) f)
+unfolding shapedVerdict
+shaped-accepted L s e = lent-none (L .tables) s (after-none _ _ e .0)
 
 module _ (L : Asked) where
   -- the part, the windows or the tables do not have their shape

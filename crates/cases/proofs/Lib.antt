@@ -1,2 +1,3 @@
--- Why a table may be cut to its buffer.
+-- Why a table may be cut to its buffer; what the printing of a number below 0 needs.
 pub mod Cut
+pub mod Below

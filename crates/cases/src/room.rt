@@ -38,6 +38,15 @@ pub const WINDOWS: usize = (Program::WINDOWS + 1) * window::WIDTH;
 
 pub const PART: usize = (Program::PART + 1) * schedule::WIDTH;
 
+pub const SCHEDULE: usize = (Program::SCHEDULE + 1) * schedule::WIDTH;
+
+pub const CODE: usize = (Program::CODE + 1) * Program::WORDS;
+
+// What is lent to a tick, by port and by task.
+pub const BY_PORT: usize = Program::PORTS + 1;
+
+pub const BY_TASK: usize = Program::TASKS + 1;
+
 // A program's ten tables lie one after the other in one room. Where each begins:
 pub const PORTS_AT: usize = 0;
 

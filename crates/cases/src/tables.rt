@@ -5,6 +5,7 @@ use crate::numbers;
 use crate::room;
 use crate::stream::Reader;
 use cells::parts::least;
+use cells::table;
 
 // How many of a slice's numbers were kept.
 pub struct Kept {
@@ -34,12 +35,6 @@ pub struct Lengths {
     pub switches: usize,
 }
 
-fn keep(out: &mut [i32], at: usize, value: i32) {
-    if at < out.len() {
-        out[at] = value;
-    }
-}
-
 // A slice's numbers, n of them.
 fn fill(r: Reader, buffer: &mut [u8], n: usize, out: &mut [i32]) -> Kept
     ensures { λ r. ⌜ r .len ≤ length (now (out .exit)) ⌝ }
@@ -52,7 +47,7 @@ fn fill(r: Reader, buffer: &mut [u8], n: usize, out: &mut [i32]) -> Kept
         if !reader.ok {
             return Kept { reader, len: 0 };
         }
-        keep(out, i, number.value);
+        table::put_value(out, i, number.value);
         i += 1;
     }
     let len = least(n, out.len());

@@ -61,6 +61,15 @@ pub fn put(code: &mut [u32], at: usize, n: usize)
     }
 }
 
+// A value put at a place; past the end nothing is.
+pub fn put_value(t: &mut [i32], at: usize, v: i32)
+    ensures { λ _. ⌜ now (t .exit) ≡ set (now (t .entry)) at v ⌝ }
+{
+    if at < t.len() {
+        t[at] = v;
+    }
+}
+
 // A column of a row, as a number.
 pub fn field(t: &[i32], width: usize, row: usize, column: usize) -> usize
     requires { ⌜ Column width column ⌝ }

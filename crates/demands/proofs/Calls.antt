@@ -9,16 +9,15 @@ use lib.IntN.{pos}
 use lib.ListN.{replicate}
 use Rattle.theory.specs.Claim.{Bars}
 use Rattle.theory.specs.Verdict.{Refusal, within, verdict, Rule, holding, First}
-use Rattle.theory.proofs.Bools.{_or_, bars-lt, bars-le, bars-as}
-use Rattle.theory.proofs.Search.{bars-any}
+use Rattle.theory.proofs.Bools.{_or_, bars-lt, bars-as}
 use Rattle.theory.proofs.Verdict.{Barred, verdict-first, barred-within, barred-append}
-use Rattle.cells.specs.Limits.{maxPorts, maxTasks, suppliers}
+use Rattle.cells.specs.Limits.{maxPorts}
 use Rattle.cells.specs.Reading.{Values}
 use Rattle.program.specs.Tables.{Tables}
 use Rattle.program.specs.Program.{programOf}
 use Rattle.rules.specs.Shape.{Shaped}
 use Rattle.rules.specs.Verdict.{shapeRefusal, tableRefusals, tableRules, programRules, programVerdict}
-use Rattle.rules.proofs.Shape.{shape-bars, slice-bars, length-bars}
+use Rattle.rules.proofs.Shape.{shape-bars, slice-bars}
 use Rattle.rules.proofs.Verdict.{program-barred}
 use Rattle.code.specs.Compile.{Compiling, codeLong, longRefusal, longRule, CodeFits, lentRefusals, lentRules, sliceShort, sliceRefusals, sliceRules, compileRefusals, compileVerdict, compileRules}
 use Rattle.suppliers.specs.Windows.{Windowed, windowsShapeBad, windowRefusals, windowsVerdict, WindowsShaped, windowRules}
@@ -26,7 +25,8 @@ use Rattle.suppliers.specs.Supplier.{Asked, supplierOf, partShapeBad, windowedO
 use Rattle.suppliers.proofs.Windows.{windows-bar}
 use Rattle.suppliers.proofs.Schedule.{part-bars, joined-bars}
 use Rattle.machine.specs.declared.Advanced.{Advanced}
-use Rattle.machine.specs.Advance.{stateOf, Advance, advanceShapeBad, AdvanceShaped, stateBad, StateFits, runRefusals, runRules, advanceVerdict, freshAnswer}
+use Rattle.machine.specs.Advance.{stateOf, Advance, advanceShapeBad, AdvanceShaped, runRefusals, runRules, advanceVerdict, freshAnswer}
+use Rattle.machine.proofs.Fits.{advance-shape-bars, state-bars}
 use Rattle.machine.proofs.Refusals.{refused-keeps}
 use Rattle.demands.specs.Calls.{CompileExact, WindowsExact, PartExact, AdvanceExact, RefusedKeeps, FreshNumber}
 
@@ -79,32 +79,6 @@ part-exact L v n =
     n
 
 -- an advance, before it runs
-advance-shape-bars : (L : Advance) → Bars (advanceShapeBad L) (AdvanceShaped L)
-unfolding advanceShapeBad
-advance-shape-bars L =
-    bars-as
-    (shape-bars (L .tables)
-    or slice-bars _ _ (L .code)
-    or slice-bars _ _ (L .schedule)
-    or length-bars _ (L .lent .readings)
-    or length-bars _ (L .lent .results)
-    or length-bars _ (L .lent .times))
-    (λ (((((t, c), s), r), o), e). record { tables = t; code = c; schedule = s; readings = r; results = o; times = e })
-    (λ k. (((((k .tables, k .code), k .schedule), k .readings), k .results), k .times))
-
-state-bars : (L : Advance) → Bars (stateBad L) (StateFits L)
-unfolding stateBad
-state-bars L =
-    bars-as
-    (bars-le _ _
-    or bars-le _ _
-    or bars-lt _ _
-    or bars-lt _ _
-    or bars-any _ _ (λ t. bars-lt _ _) maxTasks
-    or bars-any _ _ (λ j. bars-lt _ _) suppliers)
-    (λ (((((p, c), e), r), l), q). record { pending = p; current = c; elapsed = e; remaining = r; left = l; positions = q })
-    (λ k. (((((k .pending, k .current), k .elapsed), k .remaining), k .left), k .positions))
-
 pub advance-exact : AdvanceExact
 unfolding advanceVerdict
 advance-exact L v n =

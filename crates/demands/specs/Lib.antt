@@ -1,5 +1,6 @@
 -- The demands, as statements about the definitions. An assessor starts here.
 pub mod Calls
+pub mod Machine
 pub mod Verdict
 pub mod Supplier
 pub mod Composed

@@ -129,4 +129,4 @@ module _ (T : Tables) (sensors : ℕ) where
     }
       where
         there : (f : ℕ → ℕ) (m : ℕ) → m < modeCount T → getD (filled f (modeCount T) (replicate maxModes 0)) m 0 ≡ f m
-        there f m h = filled-at f (replicate maxModes 0) (modeCount T) m l h
+        there f m h = filled-at f (replicate maxModes 0) 0 (modeCount T) m l h

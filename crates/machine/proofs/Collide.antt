@@ -18,7 +18,7 @@ use Rattle.machine.specs.Schedules.{Who, nobody, one, several, join, who
 use Rattle.machine.proofs.Outcomes.{ok-not-stop, stopped, not-nobody, not-one}
 
 -- what is known of the suppliers below n when so many of them run
-abbrev Known : (ℕ → Act) → ℕ → Who → Type 0
+abbrev pub Known : (ℕ → Act) → ℕ → Who → Type 0
 Known acts n nobody = (i : ℕ) → i < n → runs (acts i) ≡ false
 Known acts n (one t) = (i : ℕ) × (i < n) × (acts i ≡ run t) × ((j : ℕ) → j < n → runs (acts j) ≡ true → j ≡ i)
 Known acts n several = (i : ℕ) × (j : ℕ) × (i < j) × (j < n) × (runs (acts i) ≡ true) × (runs (acts j) ≡ true)
@@ -43,7 +43,8 @@ more acts n (one t) (run u) e k = (k .0, n, k .1, omega arith, ap runs (k .2), a
 more acts n several rest e k = (k .0, k .1, k .2, omega (arith, k .3), k .4, k .5)
 more acts n several (run t) e k = (k .0, k .1, k .2, omega (arith, k .3), k .4, k .5)
 
-known : (acts : ℕ → Act) (n : ℕ) → Known acts n (whoRuns acts n)
+-- it is known of whoever runs
+pub known : (acts : ℕ → Act) (n : ℕ) → Known acts n (whoRuns acts n)
 known acts zero = λ i l. absurd (omega arith)
 known acts (suc n) = more acts n (whoRuns acts n) (acts n) refl (known acts n)
 

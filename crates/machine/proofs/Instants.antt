@@ -13,8 +13,9 @@ use borrow.Author.Tests.{ltb-true, ltb-false, lt-ltb, le-ltb}
 use Rattle.program.specs.Program.{Program}
 use Rattle.code.specs.Op.{Op}
 use Rattle.machine.specs.declared.State.{State}
-use Rattle.machine.specs.Instruction.{At, executes}
-use Rattle.machine.specs.Instant.{Outcome, ok, stop, isReturn, fetch, refusalAt, run, startAt, runInstant, Goes, Ends, RefusedAt, Spent}
+use Rattle.machine.specs.declared.At.{At}
+use Rattle.machine.specs.Instruction.{executes}
+use Rattle.machine.specs.Instant.{Outcome, ok, stop, ended, isReturn, fetch, refusalAt, run, startAt, runInstant, Goes, Ends, RefusedAt, Spent}
 
 module _ (P : Program) (readings times : List ℤ) (code : List Op) where
   -- what one run comes to, with its claim
@@ -113,8 +114,8 @@ module _ (P : Program) (readings times : List ℤ) (code : List Op) where
       a = startAt P readings times code u
 
       ending : (b : At) → ((b .address < length code) × (n ≡ 20)) ⊎ ((length code ≤ b .address) × (n ≡ 19)) → run P readings times code 0 b ≡ stop n
-      ending b (inl x) = rw (lt-ltb (b .address) (length code) (x .0), run) (ap stop (sym (x .1)))
-      ending b (inr x) = rw (le-ltb (b .address) (length code) (x .0), run) (ap stop (sym (x .1)))
+      ending b (inl x) = rw (lt-ltb (b .address) (length code) (x .0), ended) (ap stop (sym (x .1)))
+      ending b (inr x) = rw (le-ltb (b .address) (length code) (x .0), ended) (ap stop (sym (x .1)))
 
       back : RefusedAt P readings times code (length code) a n ⊎ Spent P readings times code (length code) a n → run P readings times code (length code) a ≡ stop n
       back (inl c) =

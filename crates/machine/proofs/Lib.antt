@@ -1,6 +1,19 @@
--- Laws of the machine's definitions: each number of execution under exactly its condition.
+-- Laws of the machine: each number of execution under exactly its condition, what an advance leaves as it was, and what the code's
+-- functions come to.
 pub mod Outcomes
 pub mod Collide
 pub mod Instructions
 pub mod Instants
+pub mod Stretch
+pub mod Fits
+pub mod Ready
 pub mod Refusals
+pub mod Completing
+pub mod Kept
+pub mod Moved
+pub mod Rowwise
+pub mod Assigned
+pub mod Declared
+pub mod Joining
+pub mod Walking
+pub mod Ticking

@@ -38,7 +38,7 @@ refused-keeps L = go (advanceVerdict L)
     go (suc n) h = refl
 
 -- the E part of an advance is refused with no 0
-ready-number : (P : Program) (code : List Op) (readings times : List ℤ) (s : State) (n : ℕ) → ready P code readings times s ≡ stop n → 1 ≤ n
+pub ready-number : (P : Program) (code : List Op) (readings times : List ℤ) (s : State) (n : ℕ) → ready P code readings times s ≡ stop n → 1 ≤ n
 ready-number P code readings times s n = go (s .remaining)
   where
     number : RefusedAt P readings times code (length code) (startAt P readings times code s) n ⊎ Spent P readings times code (length code) (startAt P readings times code s) n → 1 ≤ n

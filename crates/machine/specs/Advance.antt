@@ -76,15 +76,16 @@ pub record AdvanceShaped (L : Advance) : Type 0 where
   pub times : length (L .lent .times) ≡ maxTasks
 
 -- 21: an address is not inside the E code, elapsed, remaining or a task's remaining time exceeds 4,096, or a position exceeds
--- the schedule's rows
-unfoldable pub stateBad : Advance → Bool
-stateBad L =
-    leb (length (L .code) / wordsEach) (L .state .pending)
-    || leb (length (L .code) / wordsEach) (L .state .current)
-    || ltb maxElapsed (L .state .elapsed)
-    || ltb maxRemaining (L .state .remaining)
-    || any (λ t. ltb maxLeft (leftOf (L .state .left) t)) maxTasks
-    || any (λ j. ltb (scheduleCount (L .schedule)) (getD (L .state .positions) j 0)) suppliers
+-- the schedule's rows; where there are so many instructions and rows
+unfoldable pub stateOut : ℕ → ℕ → State → Bool
+stateOut instructions rows s =
+    (leb instructions (s .pending) || leb instructions (s .current))
+    || (ltb maxElapsed (s .elapsed) || ltb maxRemaining (s .remaining))
+    || any (λ t. ltb maxLeft (leftOf (s .left) t)) maxTasks
+    || any (λ j. ltb rows (getD (s .positions) j 0)) suppliers
+
+abbrev pub stateBad : Advance → Bool
+stateBad L = stateOut (length (L .code) / wordsEach) (scheduleCount (L .schedule)) (L .state)
 
 pub record StateFits (L : Advance) : Type 0 where
   pub pending : L .state .pending < length (L .code) / wordsEach

@@ -12,7 +12,8 @@ use Rattle.theory.specs.Verdict.{verdict}
 use Rattle.program.specs.Program.{Program}
 use Rattle.code.specs.Op.{Op, call, schedule, branch, jump, future, return, faulty}
 use Rattle.machine.specs.declared.State.{State}
-use Rattle.machine.specs.Instruction.{At, instructionRefusals, executes}
+use Rattle.machine.specs.declared.At.{At}
+use Rattle.machine.specs.Instruction.{instructionRefusals, executes}
 
 -- what an instant, or a whole advance, comes to
 pub data Outcome : Type 0 where
@@ -28,6 +29,10 @@ isReturn (future d a) = false
 isReturn return = true
 isReturn faulty = false
 
+-- all of n instructions were run: the next address says whether one more is
+abbrev pub ended : ℕ → ℕ → Outcome
+ended n address = elim (ltb address n) [ true ↦ stop 20 | false ↦ stop 19 ]
+
 module _ (P : Program) (readings times : List ℤ) (code : List Op) where
   -- the instruction at an address; past the end stands none
   abbrev pub fetch : At → Op
@@ -39,7 +44,7 @@ module _ (P : Program) (readings times : List ℤ) (code : List Op) where
 
   -- at most `count` instructions more
   abbrev pub run : ℕ → At → Outcome
-  run zero a = elim (ltb (a .address) (length code)) [ true ↦ stop 20 | false ↦ stop 19 ]
+  run zero a = ended (length code) (a .address)
   run (suc count) a = elim (refusalAt a) [
     | zero ↦ elim (isReturn (fetch a)) [ true ↦ ok (a .state) | false ↦ run count (executes P readings times (fetch a) a) ]
     | suc n ↦ stop (suc n)

@@ -19,6 +19,7 @@ use Rattle.rules.specs.Fields.{inRange, InRange}
 use Rattle.runs.specs.Tick.{leftOf}
 use Rattle.code.specs.Op.{Op, call, schedule, branch, jump, future, return, faulty}
 use Rattle.machine.specs.declared.State.{State}
+use Rattle.machine.specs.declared.At.{At}
 use Rattle.machine.specs.Change.{withPorts, withLeft}
 
 -- "call numbers fall into three ranges": what a call number names
@@ -113,12 +114,6 @@ StillRunning s (jump a) = ⊥
 StillRunning s (future d a) = ⊥
 StillRunning s return = ⊥
 StillRunning s faulty = ⊥
-
--- where the machine is within an instant: the next address, whether a `future` was executed, the state so far
-pub record At : Type 0 where
-  pub address : ℕ
-  pub planned : Bool
-  pub state : State
 
 -- "readings are used only when E code reads, times only at `schedule`"
 module _ (P : Program) (readings times : List ℤ) where

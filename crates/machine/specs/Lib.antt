@@ -1,6 +1,9 @@
 -- The machine: one instruction, one instant, one tick of the schedules, a fresh state, an advance.
+pub mod Values
 pub mod Change
 pub mod Instruction
 pub mod Instant
 pub mod Schedules
 pub mod Advance
+pub mod Moves
+pub mod Straight

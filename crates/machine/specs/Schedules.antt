@@ -14,6 +14,8 @@ use Rattle.program.specs.Ports.{valueOf, takes}
 use Rattle.runs.specs.Tick.{leftOf, Act, rest, run, runs, after, Place, moved, doing}
 use Rattle.runs.specs.Schedule.{blockOf}
 use Rattle.machine.specs.declared.State.{State}
+use Rattle.machine.specs.declared.schedules.Running.{Running}
+use Rattle.machine.specs.declared.schedules.Shares.{Shares}
 use Rattle.machine.specs.Instant.{Outcome, ok, stop}
 
 -- who runs in a tick
@@ -58,6 +60,15 @@ module _ (S : List ℤ) (s : State) where
     pub one-runs : runs (actOf one-supplier) ≡ true
     pub other-runs : runs (actOf other-supplier) ≡ true
 
+-- the same as the code hands it on: how many run, two standing for more, and the task if one does
+abbrev pub told : Who → Running
+told nobody = record { count = 0; job = record { 0 = 0 } }
+told (one t) = record { count = 1; job = record { 0 = t } }
+told several = record { count = 2; job = record { 0 = 0 } }
+
+abbrev pub sharesOf : List ℤ → State → Shares
+sharesOf S s = record { running = told (running S s); positions = each (movedOf S s) suppliers 0 }
+
 -- the local outputs after a tick of task t: its results where it completes
 abbrev pub outputsAfter : Program → List ℤ → State → ℕ → List ℤ
 outputsAfter P results s t = elim (eqb (leftOf (s .left) t) 1) [
@@ -66,8 +77,8 @@ outputsAfter P results s t = elim (eqb (leftOf (s .left) t) 1) [
 ]
 
 -- the tick has passed: "after 4294967295 comes 0"
-abbrev pub afterTick : List ℤ → State → List ℕ → List ℤ → State
-afterTick S s left outputs = record {
+abbrev pub tickPassed : State → List ℕ → List ℤ → List ℕ → State
+tickPassed s left outputs positions = record {
   ports = s .ports;
   outputs = outputs;
   time = (s .time + 1) % 2 ^ 32;
@@ -76,8 +87,11 @@ afterTick S s left outputs = record {
   elapsed = s .elapsed + 1;
   remaining = s .remaining - 1;
   left = left;
-  positions = each (movedOf S s) suppliers 0;
+  positions = positions;
 }
+
+abbrev pub afterTick : List ℤ → State → List ℕ → List ℤ → State
+afterTick S s left outputs = tickPassed s left outputs (each (movedOf S s) suppliers 0)
 
 abbrev pub ticked : Program → List ℤ → List ℤ → State → Who → Outcome
 ticked P S results s nobody = ok (afterTick S s (s .left) (s .outputs))

@@ -120,7 +120,15 @@ guard-always T d e = ap (λ (b : Bool). elim b [ true ↦ always | false ↦ int
 guard-interval : (T : Tables) (d : ℕ) → eqb (guardKind T d) kindAlways ≡ false → guardOf T d ≡ interval (guardPort T d) (guardLow T d) (guardHigh T d)
 guard-interval T d e = ap (λ (b : Bool). elim b [ true ↦ always | false ↦ interval (guardPort T d) (guardLow T d) (guardHigh T d) ]) e
 
--- so two drivers' guards meet where one is always
+-- so it holds always, or where the port's value lies in its interval
+pub holds-always : (T : Tables) (d : ℕ) (v : ℕ → ℤ) → eqb (guardKind T d) kindAlways ≡ true → holds (guardOf T d) v ≡ true
+holds-always T d v e = ap (λ (g : Guard). holds g v) (guard-always T d e)
+
+pub holds-interval : (T : Tables) (d : ℕ) (v : ℕ → ℤ) → eqb (guardKind T d) kindAlways ≡ false
+    → holds (guardOf T d) v ≡ inside (guardLow T d) (v (guardPort T d)) (guardHigh T d)
+holds-interval T d v e = ap (λ (g : Guard). holds g v) (guard-interval T d e)
+
+-- and two drivers' guards meet where one is always
 pub always-meets : (T : Tables) (d e : ℕ) → eqb (guardKind T d) kindAlways ≡ true → meet (guardOf T d) (guardOf T e) ≡ true
 always-meets T d e a = ap (λ (g : Guard). meet g (guardOf T e)) (guard-always T d a)
 

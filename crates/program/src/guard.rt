@@ -1,12 +1,14 @@
-// Guards of two drivers: can both hold for one valuation of the ports?
+// When a guard holds, and whether two can hold for one valuation of the ports.
 ghost use mathlib.Core.Path.{_≡_};
 ghost use lib.Dec.{eqb};
 ghost use lib.Signed.{leZ};
 ghost use Rattle.program.specs.Tables.{Tables, guardKind, guardPort, guardLow, guardHigh, kindAlways, kindInterval};
-ghost use Rattle.program.specs.Guard.{guardOf, meet};
+ghost use Rattle.program.specs.Guard.{guardOf, holds, meet};
+ghost use Rattle.program.specs.Ports.{valueOf};
 use cells::columns::driver;
 use cells::kinds::Driver;
 use cells::reading;
+use cells::reading::Reading;
 use cells::table;
 
 // The guard of driver d is always.
@@ -53,4 +55,17 @@ pub fn guards_meet(drivers: &[i32], d: Driver, e: Driver) -> bool
     }
     let apart = !one_port(drivers, d, e);
     apart | (low_at_most_high(drivers, d, e) & low_at_most_high(drivers, e, d))
+}
+
+// The guard of driver d holds for these values of the ports.
+pub fn guard_holds(drivers: &[i32], d: Driver, values: &[i32]) -> bool
+    ensures { λ r. ⌜ ((T : Tables) → T .drivers ≡ now (drivers .entry) → r ≡ holds (guardOf T (d .0)) (valueOf (now (values .entry)))) ⌝ }
+{
+    if is_always(drivers, d) {
+        return true;
+    }
+    let p = table::port(drivers, driver::WIDTH, d.index(), driver::PORT);
+    let low = table::signed(drivers, driver::WIDTH, d.index(), driver::LOW);
+    let high = table::signed(drivers, driver::WIDTH, d.index(), driver::HIGH);
+    Reading(table::value(values, p.index())).within(low, high)
 }

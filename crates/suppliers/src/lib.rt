@@ -1,4 +1,5 @@
 // Windows and a supplier's schedule code: numbers 12 and 13, and what is answered on 14 and 15.
+pub mod joined;
 pub mod parts;
 pub mod schedule_rows;
 pub mod window_rows;

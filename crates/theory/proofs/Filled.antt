@@ -1,17 +1,56 @@
--- A list whose first places were set, one after the other, to the numbers of a rule: what stands there, and how large it can be.
--- Assumes nothing.
-use Prim.Native.Nat.{ℕ, zero, suc, _≤_, _<_}
-use mathlib.Core.Path.{_≡_, refl, _∙_}
+-- A list whose first places were set, one after the other, to what a rule says: what stands there, what the whole is once all were
+-- set, and how large numbers can be. Assumes nothing.
+use Prim.Native.Nat.{ℕ, zero, suc, _+_, _≤_, _<_}
+use mathlib.Core.Path.{_≡_, refl, sym, ap, ap₂, _∙_}
 use mathlib.Core.List.{List, [], _∷_}
 use native.Mathlib.Decide.{decLt}
+use native.Mathlib.Numerals.{add-one}
 use native.Mathlib.Omega.{arith}
 use lib.ListN.{length, getD, set, replicate, length-set}
-use lib.Seq.{getD-set-same, getD-set-other}
+use lib.Seq.{getD-set-same, getD-set-other, ext-getD}
+use Rattle.theory.specs.Lists.{each}
+use Rattle.theory.proofs.Lists.{each-length, each-at}
 
--- the first n places of a list, set to f's numbers
-abbrev pub filled : (ℕ → ℕ) → ℕ → List ℕ → List ℕ
-filled f zero l = l
-filled f (suc n) l = set (filled f n l) n (f n)
+module _ {A : Type 0} where
+  -- the first n places of a list, set to what f says
+  abbrev pub filled : (ℕ → A) → ℕ → List A → List A
+  filled f zero l = l
+  filled f (suc n) l = set (filled f n l) n (f n)
+
+  module _ (f : ℕ → A) (l : List A) where
+    -- one place more
+    pub filled-more : (n : ℕ) (now : List A) (x : A) → now ≡ filled f n l → x ≡ f n → set now n x ≡ filled f (n + 1) l
+    filled-more n now x e q =
+        ap₂ (λ (v : List A) (y : A). set v n y) e q ∙ ap (λ (k : ℕ). filled f k l) (sym (add-one n))
+
+    -- the length stays
+    pub filled-length : (n : ℕ) → length (filled f n l) ≡ length l
+    filled-length zero = refl
+    filled-length (suc n) = length-set (filled f n l) n (f n) ∙ filled-length n
+
+    -- (d is what stands past the end)
+    module _ (d : A) where
+      -- at a place that was set stands what f says
+      pub filled-at : (n i : ℕ) → n ≤ length l → i < n → getD (filled f n l) i d ≡ f i
+      filled-at zero i b h = absurd (omega arith)
+      filled-at (suc n) i b h = go (decLt i n) (filled-at n i (omega arith))
+        where
+          go : Dec (i < n) → (i < n → getD (filled f n l) i d ≡ f i) → getD (filled f (suc n) l) i d ≡ f i
+          go (yes k) ih = getD-set-other (filled f n l) n i (f n) d (λ e. omega arith) ∙ ih k
+          go (no k) ih =
+              let e : i ≡ n = omega arith in rw e (getD-set-same (filled f n l) n (f n) d (omega (arith, filled-length n)))
+
+      -- a place that was not is as before
+      pub filled-beyond : (n i : ℕ) → n ≤ i → getD (filled f n l) i d ≡ getD l i d
+      filled-beyond zero i h = refl
+      filled-beyond (suc n) i h = getD-set-other (filled f n l) n i (f n) d (λ e. omega arith) ∙ filled-beyond n i (omega arith)
+
+      -- all places were set: the list is what f says, in order
+      pub filled-all : (n : ℕ) → length l ≡ n → filled f n l ≡ each f n 0
+      filled-all n e =
+          let k : length (filled f n l) ≡ n = filled-length n ∙ e in
+          ext-getD d (filled f n l) (each f n 0) (k ∙ sym (each-length f n 0))
+          (λ i h. filled-at n i (omega arith) (omega arith) ∙ sym (each-at f n i d (omega arith)))
 
 -- in a list of zeros stands 0 everywhere
 pub zeros-at : (n i : ℕ) → getD {A = ℕ} (replicate n 0) i 0 ≡ 0
@@ -28,21 +67,6 @@ set-most (y ∷ l) (suc n) x zero b h g = g
 set-most (y ∷ l) (suc n) x (suc i) b h g = set-most l n x i b h g
 
 module _ (f : ℕ → ℕ) (l : List ℕ) where
-  -- the length stays
-  pub filled-length : (n : ℕ) → length (filled f n l) ≡ length l
-  filled-length zero = refl
-  filled-length (suc n) = length-set (filled f n l) n (f n) ∙ filled-length n
-
-  -- at a place that was set stands f's number
-  pub filled-at : (n i : ℕ) → n ≤ length l → i < n → getD (filled f n l) i 0 ≡ f i
-  filled-at zero i b h = absurd (omega arith)
-  filled-at (suc n) i b h = go (decLt i n) (filled-at n i (omega arith))
-    where
-      go : Dec (i < n) → (i < n → getD (filled f n l) i 0 ≡ f i) → getD (filled f (suc n) l) i 0 ≡ f i
-      go (yes k) ih = getD-set-other (filled f n l) n i (f n) 0 (λ e. omega arith) ∙ ih k
-      go (no k) ih =
-          let e : i ≡ n = omega arith in rw e (getD-set-same (filled f n l) n (f n) 0 (omega (arith, filled-length n)))
-
   -- where f's numbers are no more than b, and the list's, nothing is
   pub filled-most : (b n : ℕ) → ((i : ℕ) → i < n → f i ≤ b) → ((i : ℕ) → getD l i 0 ≤ b) → (i : ℕ) → getD (filled f n l) i 0 ≤ b
   filled-most b zero h g i = g i

@@ -1,21 +1,18 @@
 // The cases of one file, by its kind.
 use crate::compiles;
 use crate::kind;
-use crate::out;
 use crate::supplier_cases;
 use crate::verdicts;
 use crate::window_cases;
 use cases::numbers;
+use cases::out;
+use cases::out::Answer;
 use cases::stream;
 use cases::stream::Reader;
 use libc::STDOUT_FILENO;
-
-// What became of a case: whether its kind is known, and whether its line could be written.
-pub struct Answer {
-    pub reader: Reader,
-    pub known: bool,
-    pub written: bool,
-}
+use machine_cases::advance;
+use machine_cases::fresh;
+use machine_cases::long;
 
 // The next case, answered. A refused reader reads nothing, and nothing is printed for it.
 fn case(kind: &[u8], r: Reader, buffer: &mut [u8]) -> Answer {
@@ -30,6 +27,18 @@ fn case(kind: &[u8], r: Reader, buffer: &mut [u8]) -> Answer {
     }
     if check::same(kind, b"supplier") {
         return supplier_cases::case(r, buffer);
+    }
+    if check::same(kind, b"fresh") {
+        return fresh::case(r, buffer);
+    }
+    if check::same(kind, b"advance") {
+        return advance::case(r, buffer, false);
+    }
+    if check::same(kind, b"run") {
+        return advance::case(r, buffer, true);
+    }
+    if check::same(kind, b"long") {
+        return long::case(r, buffer);
     }
     Answer {
         reader: r,

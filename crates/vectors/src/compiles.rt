@@ -1,7 +1,7 @@
 // The kind `compile`: a program and how many words are lent a case; its verdict, length and the words written a line.
-use crate::answers::Answer;
-use crate::out;
 use cases::numbers;
+use cases::out;
+use cases::out::Answer;
 use cases::room;
 use cases::stream::Reader;
 use cases::tables;

@@ -2,7 +2,6 @@
 mod answers;
 mod compiles;
 mod kind;
-mod out;
 mod supplier_cases;
 mod verdicts;
 mod window_cases;

@@ -1,8 +1,8 @@
 // The kind `supplier`: a program, its windows, a part of the schedule and a supplier a case; number, mode and tick a line.
-use crate::answers::Answer;
-use crate::out;
 use cases::numbers;
 use cases::numbers::Number;
+use cases::out;
+use cases::out::Answer;
 use cases::room;
 use cases::stream::Reader;
 use cases::tables;

@@ -1,6 +1,6 @@
 // The kind `verdict`: a program a case, its verdict a line.
-use crate::answers::Answer;
-use crate::out;
+use cases::out;
+use cases::out::Answer;
 use cases::room;
 use cases::stream::Reader;
 use cases::tables;

@@ -4,3 +4,4 @@ pub mod Runs
 pub mod Instances
 pub mod Listings
 pub mod Walk
+pub mod Advances

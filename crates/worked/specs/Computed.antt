@@ -17,9 +17,9 @@ use Rattle.runs.specs.Windows.{windowHas, inWindow, shareTick}
 use Rattle.suppliers.specs.Schedule.{dispatchFits, idleFits, precedes, rowWrong, rowsBad, partBad, rowCount, joinedBad}
 use Rattle.suppliers.specs.Supplier.{partShapeBad, partVerdict, supplierVerdict}
 use Rattle.suppliers.specs.Windows.{windowWrong, windowsBad, windowsShapeBad, windowsVerdict}
-use Rattle.machine.specs.Advance.{freshAnswer, advanceShapeBad, stateBad, advanceVerdict, advanceAnswer}
+use Rattle.machine.specs.Advance.{freshAnswer, advanceShapeBad, stateOut, advanceVerdict, advanceAnswer}
 use Rattle.text.specs.Shipped.{shipped}
 
 unfoldable pub computed : Unit {0}
-unfolding any firstFrom first nameOf numAt nameAt wordAt inside isMissing isKind isTaskPort modePortAt isInput isOutput isModePort copiesFrom copiesTo isSource isDestination misses rowMisses isMultiple units samePort taskPortClash taskPortsBad copyClash copiesBad modePortClash modePortsBad inRange portBad taskBad taskPortBad alwaysFits intervalFits driverBad copyBad modeBad modePortBad invocationBad updateBad switchBad startBad fieldsBad ownPort outputWith inputWith portWith sourceWith destinationWith someOutput someInput somePort someSource someDestination unreadable invocationClash invocationWrong invocationsBad updateClash updateWrong updatesBad switchClash switchWrong switchesBad badSlice badLength shapeBad unitsWrong unitsBad notWhole wholeWrong wholeBad programVerdict listingOf codeLong sliceShort compileVerdict listing windowHas inWindow shareTick dispatchFits idleFits precedes rowWrong rowsBad partBad rowCount joinedBad partShapeBad partVerdict supplierVerdict windowWrong windowsBad windowsShapeBad windowsVerdict freshAnswer advanceShapeBad stateBad advanceVerdict advanceAnswer shipped
+unfolding any firstFrom first nameOf numAt nameAt wordAt inside isMissing isKind isTaskPort modePortAt isInput isOutput isModePort copiesFrom copiesTo isSource isDestination misses rowMisses isMultiple units samePort taskPortClash taskPortsBad copyClash copiesBad modePortClash modePortsBad inRange portBad taskBad taskPortBad alwaysFits intervalFits driverBad copyBad modeBad modePortBad invocationBad updateBad switchBad startBad fieldsBad ownPort outputWith inputWith portWith sourceWith destinationWith someOutput someInput somePort someSource someDestination unreadable invocationClash invocationWrong invocationsBad updateClash updateWrong updatesBad switchClash switchWrong switchesBad badSlice badLength shapeBad unitsWrong unitsBad notWhole wholeWrong wholeBad programVerdict listingOf codeLong sliceShort compileVerdict listing windowHas inWindow shareTick dispatchFits idleFits precedes rowWrong rowsBad partBad rowCount joinedBad partShapeBad partVerdict supplierVerdict windowWrong windowsBad windowsShapeBad windowsVerdict freshAnswer advanceShapeBad stateOut advanceVerdict advanceAnswer shipped
 computed = tt

@@ -1,5 +1,14 @@
-// What is printed: lines. Each function answers whether all of it was written.
+// What is printed: lines; and what became of a case. Each function answers whether all of it was written.
+use crate::stream::Reader;
+use cells::table;
 use libc::STDOUT_FILENO;
+
+// What became of a case: whether its kind is known, and whether its line could be written.
+pub struct Answer {
+    pub reader: Reader,
+    pub known: bool,
+    pub written: bool,
+}
 
 // A number's digits; after a space; the end of a line.
 pub fn digits(n: usize) -> bool {
@@ -11,6 +20,18 @@ pub fn after_space(n: usize) -> bool {
         return false;
     }
     digits(n)
+}
+
+// A signed number's digits after a space; the least one of 32 bits too.
+pub fn signed_after_space(n: i32) -> bool {
+    if n < 0 {
+        if !io::write_all(STDOUT_FILENO, b" -") {
+            return false;
+        }
+        let less = 0 - (n + 1);
+        return digits(table::index(less) + 1);
+    }
+    after_space(table::index(n))
 }
 
 pub fn line_end() -> bool {

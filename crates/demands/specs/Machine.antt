@@ -1,0 +1,30 @@
+-- Demand 1 for the machine, as statements: what an accepted advance changes, and how long its instant may be. (That a refusal hands
+-- the state back is `RefusedKeeps` in Calls.antt; 16 to 20 stand in machine/specs as claims of what is executed.) Proved in
+-- proofs/Machine.antt. Assumes nothing.
+use Prim.Native.Nat.{ℕ, _+_, _/_, _%_, _^_}
+use mathlib.Core.Path.{_≡_}
+use lib.ListN.{length}
+use Rattle.cells.specs.Limits.{wordsEach}
+use Rattle.program.specs.Program.{programOf}
+use Rattle.code.specs.Op.{instructions}
+use Rattle.machine.specs.declared.State.{State}
+use Rattle.machine.specs.Instant.{startAt, Ends}
+use Rattle.machine.specs.Advance.{Advance, advanceAnswer}
+use Rattle.machine.specs.Moves.{Advances}
+
+-- the state handed back differs from the one before only where document 01 says
+abbrev pub AdvanceMoves : Type 0
+AdvanceMoves = (L : Advance) → advanceAnswer L .number ≡ 0 → Advances L (advanceAnswer L .state)
+
+-- "after 4294967295 comes 0": the time stamp moves by one
+abbrev pub TimeMoves : Type 0
+TimeMoves = (L : Advance) → advanceAnswer L .number ≡ 0 → advanceAnswer L .state .time ≡ (L .state .time + 1) % 2 ^ 32
+
+-- an accepted advance in which no tick of the unit remained: its instant came to a `return` that was not refused, in no more
+-- instructions than the lent code has
+abbrev pub InstantCounted : Type 0
+InstantCounted =
+    (L : Advance) → advanceAnswer L .number ≡ 0 → L .state .remaining ≡ 0
+    → (u : State)
+    × Ends (programOf (L .tables)) (L .lent .readings) (L .lent .times) (instructions (L .code)) (length (L .code) / wordsEach)
+    (startAt (programOf (L .tables)) (L .lent .readings) (L .lent .times) (instructions (L .code)) (L .state)) u

@@ -1,0 +1,53 @@
+-- The instruction that stands at the machine's address, from the three words there; past the end stands none.
+-- Assumes nothing.
+use Prim.Native.Nat.{ℕ, zero, suc, _+_, _*_, _/_, _≤_, _<_}
+use mathlib.Core.Path.{_≡_, refl, sym, ap, _∙_}
+use mathlib.Core.List.{List}
+use native.Mathlib.Omega.{arith}
+use lib.IntN.{ℤ}
+use lib.ListN.{length, List·getD-eq-default}
+use Rattle.cells.specs.Cell.{wordAt}
+use Rattle.cells.specs.Limits.{wordsEach}
+use Rattle.program.specs.Program.{Program}
+use Rattle.code.specs.Op.{Op, faulty, decode, instructions}
+use Rattle.code.proofs.Fetch.{instructions-length, instruction-read}
+use Rattle.machine.specs.declared.At.{At}
+use Rattle.instants.specs.declared.instructions.Stepped.{Stepped}
+use Rattle.instants.specs.Step.{stepped, stepAt}
+use Rattle.instants.proofs.Steps.{refusedWith, step-faulty}
+
+-- what none of the six numbers begins is faulty
+unknown : (n first second : ℕ) → (n ≡ 0 → ⊥) → (n ≡ 1 → ⊥) → (n ≡ 2 → ⊥) → (n ≡ 3 → ⊥) → (n ≡ 4 → ⊥) → (n ≡ 5 → ⊥) → faulty ≡ decode n first second
+unknown zero first second a b c d e f = absurd (a refl)
+unknown (suc zero) first second a b c d e f = absurd (b refl)
+unknown (suc (suc zero)) first second a b c d e f = absurd (c refl)
+unknown (suc (suc (suc zero))) first second a b c d e f = absurd (d refl)
+unknown (suc (suc (suc (suc zero)))) first second a b c d e f = absurd (e refl)
+unknown (suc (suc (suc (suc (suc zero))))) first second a b c d e f = absurd (f refl)
+unknown (suc (suc (suc (suc (suc (suc n)))))) first second a b c d e f = refl
+
+module _ (P : Program) (readings times : List ℤ) (code : List ℕ) (a : At) where
+  -- past the end
+  pub fetched-none : length code / wordsEach ≤ a .address → refusedWith a 19 ≡ stepAt P readings times (instructions code) a
+  fetched-none l =
+      step-faulty P readings times (length (instructions code)) a faulty refl
+      ∙ ap (λ (o : Op). stepped P readings times (length (instructions code)) o a)
+      (sym (List·getD-eq-default (instructions code) faulty (omega (arith, instructions-length code))))
+
+  module _ (number first second : ℕ) (l : a .address < length code / wordsEach)
+      (w : number ≡ wordAt code (a .address * wordsEach)) (x : first ≡ wordAt code (a .address * wordsEach + 1))
+      (y : second ≡ wordAt code (a .address * wordsEach + 2)) where
+    -- what its words say is executed
+    pub fetched : (r : Stepped) (n : ℕ) → number ≡ n → r ≡ stepped P readings times (length code / wordsEach) (decode n first second) a
+        → r ≡ stepAt P readings times (instructions code) a
+    fetched r n e s =
+        s ∙ ap (λ (k : ℕ). stepped P readings times k (decode n first second) a) (sym (instructions-length code))
+        ∙ ap (λ (o : Op). stepped P readings times (length (instructions code)) o a) (instruction-read code (a .address) n first second l (sym e ∙ w) x y)
+
+    -- it has none of the six numbers
+    pub fetched-unknown : (number ≡ 0 → ⊥) → (number ≡ 1 → ⊥) → (number ≡ 2 → ⊥) → (number ≡ 3 → ⊥) → (number ≡ 4 → ⊥) → (number ≡ 5 → ⊥)
+        → refusedWith a 19 ≡ stepAt P readings times (instructions code) a
+    fetched-unknown n₀ n₁ n₂ n₃ n₄ n₅ =
+        fetched (refusedWith a 19) number refl
+        (step-faulty P readings times (length code / wordsEach) a faulty refl
+        ∙ ap (λ (o : Op). stepped P readings times (length code / wordsEach) o a) (unknown number first second n₀ n₁ n₂ n₃ n₄ n₅))

@@ -1,0 +1,132 @@
+-- An instant instruction by instruction, as the loop runs it: each comes to a refusal, to the end or to the next one, and the count
+-- ends it. Assumes nothing.
+use Prim.Native.Nat.{ℕ, zero, suc, _-_, _/_, _≤_, _<_}
+use mathlib.Core.Path.{_≡_, refl, sym, ap, _∙_}
+use mathlib.Core.Bool.{Bool, true, false}
+use mathlib.Core.List.{List}
+use native.Mathlib.Omega.{arith}
+use lib.IntN.{ℤ}
+use lib.ListN.{length}
+use borrow.Author.Tests.{lt-ltb, le-ltb}
+use Rattle.theory.proofs.Bools.{clash}
+use Rattle.cells.specs.Limits.{wordsEach}
+use Rattle.program.specs.Program.{Program}
+use Rattle.code.specs.Op.{Op, call, schedule, branch, jump, future, return, faulty, instructions}
+use Rattle.code.proofs.Fetch.{instructions-length}
+use Rattle.machine.specs.declared.State.{State}
+use Rattle.machine.specs.declared.Advanced.{Advanced}
+use Rattle.machine.specs.declared.At.{At}
+use Rattle.machine.specs.Instruction.{executes}
+use Rattle.machine.specs.Instant.{Outcome, ok, stop, isReturn, ended, fetch, refusalAt, run, startAt, runInstant}
+use Rattle.machine.specs.Advance.{answer}
+use Rattle.instants.specs.declared.instructions.Stepped.{Stepped}
+use Rattle.instants.specs.Step.{stepped, stepAt}
+
+-- all were run: one more inside the code is 20
+pub spent-inside : (n address : ℕ) (s : State) → address < n → record { number = 20; state = s } ≡ answer s (ended n address)
+spent-inside n address s l = rw (lt-ltb address n l, ended)
+
+-- running off the end is 19
+pub spent-outside : (n address : ℕ) (s : State) → n ≤ address → record { number = 19; state = s } ≡ answer s (ended n address)
+spent-outside n address s l = rw (le-ltb address n l, ended)
+
+module _ (P : Program) (readings times : List ℤ) where
+  -- a `return` leaves the machine as it is
+  return-stays : (o : Op) (a : At) → isReturn o ≡ true → executes P readings times o a ≡ a
+  return-stays (call c) a e = clash {b = false} e refl
+  return-stays (schedule t) a e = clash {b = false} e refl
+  return-stays (branch d to) a e = clash {b = false} e refl
+  return-stays (jump to) a e = clash {b = false} e refl
+  return-stays (future d to) a e = clash {b = false} e refl
+  return-stays return a e = refl
+  return-stays faulty a e = clash {b = false} e refl
+
+  module _ (code : List Op) (a : At) (r : Stepped) (e : r ≡ stepAt P readings times code a) where
+    -- what the instruction comes to, by its refusal
+    abbrev stepBy : ℕ → Stepped
+    stepBy v = elim v [
+      | zero ↦ record { number = 0; over = isReturn (fetch P readings times code a); at = executes P readings times (fetch P readings times code a) a }
+      | suc m ↦ record { number = suc m; over = false; at = a }
+    ]
+
+    -- the run after it, if it is not refused
+    abbrev goes : ℕ → Bool → Outcome
+    goes count over = elim over [
+      | true ↦ ok (a .state)
+      | false ↦ run P readings times code count (executes P readings times (fetch P readings times code a) a)
+    ]
+
+    -- the run that begins with it, by its refusal
+    abbrev runBy : ℕ → ℕ → Outcome
+    runBy count v = elim v [ zero ↦ goes count (isReturn (fetch P readings times code a)) | suc n ↦ stop (suc n) ]
+
+    -- it comes to that
+    by-refusal : r ≡ stepBy (refusalAt P readings times code a)
+    unfolding stepped
+    by-refusal = e
+
+    -- so does the run
+    one-more : (more : ℕ) → 0 < more → run P readings times code more a ≡ runBy (more - 1) (refusalAt P readings times code a)
+    one-more more l = let z : more ≡ suc (more - 1) = omega arith in ap (λ (k : ℕ). run P readings times code k a) z
+
+    -- the instant is refused
+    pub run-refused : (more : ℕ) → 0 < more → 0 < r .number → run P readings times code more a ≡ stop (r .number)
+    run-refused more l h = one-more more l ∙ go (refusalAt P readings times code a) by-refusal
+      where
+        go : (v : ℕ) → r ≡ stepBy v → runBy (more - 1) v ≡ stop (r .number)
+        go zero f = let z : r .number ≡ 0 = ap (λ (q : Stepped). q .number) f in absurd (omega arith)
+        go (suc v) f = ap (λ (q : Stepped). stop (q .number)) (sym f)
+
+    -- it is over
+    pub run-over : (more : ℕ) → 0 < more → r .number ≤ 0 → r .over ≡ true → run P readings times code more a ≡ ok (r .at .state)
+    run-over more l h y = one-more more l ∙ go (refusalAt P readings times code a) by-refusal
+      where
+        go : (v : ℕ) → r ≡ stepBy v → runBy (more - 1) v ≡ ok (r .at .state)
+        go zero f =
+            let returns : isReturn (fetch P readings times code a) ≡ true = sym (ap (λ (q : Stepped). q .over) f) ∙ y in
+            ap (goes (more - 1)) returns
+            ∙ ap (λ (m : At). ok (m .state)) (sym (ap (λ (q : Stepped). q .at) f ∙ return-stays (fetch P readings times code a) a returns))
+        go (suc v) f = let z : r .number ≡ suc v = ap (λ (q : Stepped). q .number) f in absurd (omega arith)
+
+    -- it goes on
+    pub run-goes : (more : ℕ) → 0 < more → r .number ≤ 0 → r .over ≡ false → run P readings times code more a ≡ run P readings times code (more - 1) (r .at)
+    run-goes more l h y = one-more more l ∙ go (refusalAt P readings times code a) by-refusal
+      where
+        go : (v : ℕ) → r ≡ stepBy v → runBy (more - 1) v ≡ run P readings times code (more - 1) (r .at)
+        go zero f =
+            let goes-on : isReturn (fetch P readings times code a) ≡ false = sym (ap (λ (q : Stepped). q .over) f) ∙ y in
+            ap (goes (more - 1)) goes-on ∙ ap (λ (q : Stepped). run P readings times code (more - 1) (q .at)) (sym f)
+        go (suc v) f = let z : r .number ≡ suc v = ap (λ (q : Stepped). q .number) f in absurd (omega arith)
+
+  module _ (words : List ℕ) (s : State) where
+    -- what is left to run from here is what was to run from the start
+    abbrev pub Left : ℕ → At → Type 0
+    Left more a = run P readings times (instructions words) more a ≡ runInstant P readings times (instructions words) s
+
+    -- at the start all instructions are left
+    pub left-all : Left (length words / wordsEach) (startAt P readings times (instructions words) s)
+    left-all = ap (λ (k : ℕ). run P readings times (instructions words) k (startAt P readings times (instructions words) s)) (sym (instructions-length words))
+
+    module _ (more : ℕ) (a : At) (left : Left more a) where
+      -- none is left
+      pub left-none : (r : Advanced) → more ≤ 0 → r ≡ answer s (ended (length words / wordsEach) (a .address))
+          → r ≡ answer s (runInstant P readings times (instructions words) s)
+      left-none r l e =
+          let z : 0 ≡ more = omega arith in
+          e
+          ∙ ap (λ (n : ℕ). answer s (ended n (a .address))) (sym (instructions-length words))
+          ∙ ap (answer s) (ap (λ (k : ℕ). run P readings times (instructions words) k a) z ∙ left)
+
+      module _ (l : 0 < more) (r : Stepped) (e : r ≡ stepAt P readings times (instructions words) a) where
+        -- the next one is refused
+        pub left-refused : 0 < r .number → record { number = r .number; state = s } ≡ answer s (runInstant P readings times (instructions words) s)
+        left-refused h = ap (answer s) (sym (run-refused (instructions words) a r e more l h) ∙ left)
+
+        -- it ends the instant
+        pub left-over : r .number ≤ 0 → r .over ≡ true
+            → record { number = 0; state = r .at .state } ≡ answer s (runInstant P readings times (instructions words) s)
+        left-over h y = ap (answer s) (sym (run-over (instructions words) a r e more l h y) ∙ left)
+
+        -- one less is left
+        pub left-less : r .number ≤ 0 → r .over ≡ false → Left (more - 1) (r .at)
+        left-less h y = sym (run-goes (instructions words) a r e more l h y) ∙ left

@@ -1,0 +1,134 @@
+-- What one instruction comes to, by its tests: refused with 19, 16 or 17, in that order, or executed.
+-- Assumes nothing.
+use Prim.Native.Nat.{ℕ, zero, suc, _+_}
+use mathlib.Core.Path.{_≡_, refl, sym, ap, _∙_}
+use mathlib.Core.Bool.{Bool, true, false, not, _&&_, _||_}
+use mathlib.Core.List.{List}
+use native.Mathlib.Nat.{zero-add}
+use native.Mathlib.Numerals.{add-one}
+use native.Mathlib.Omega.{arith}
+use lib.Dec.{ltb, leb}
+use lib.IntN.{ℤ}
+use borrow.Author.Tests.{lt-ltb}
+use Rattle.theory.specs.Verdict.{orElse}
+use Rattle.theory.proofs.Bools.{clash, neither}
+use Rattle.cells.specs.Limits.{maxDelay}
+use Rattle.program.specs.Program.{Program}
+use Rattle.rules.specs.Fields.{inRange}
+use Rattle.code.specs.Op.{Op, jump, future, return, unused, decode}
+use Rattle.machine.specs.declared.State.{State}
+use Rattle.machine.specs.declared.At.{At}
+use Rattle.machine.specs.Instruction.{isFaulty, timeBad, stillRunning, planAt, executes}
+use Rattle.machine.specs.Instant.{isReturn}
+use Rattle.instants.specs.declared.instructions.Stepped.{Stepped}
+use Rattle.instants.specs.Step.{stepped}
+
+-- some unused word is not 0 exactly where their sum is not
+pub either-some : (m n : ℕ) → (ltb 0 m || ltb 0 n) ≡ ltb 0 (m + n)
+either-some zero n = ap (ltb 0) (sym (zero-add n))
+either-some (suc m) n = ap (λ (b : Bool). b || ltb 0 n) (lt-ltb 0 (suc m) (omega arith)) ∙ sym (lt-ltb 0 (suc m + n) (omega arith))
+
+module _ (a : At) where
+  -- refused with this number, the machine as it was
+  abbrev pub refusedWith : ℕ → Stepped
+  refusedWith number = record { number = number; over = false; at = a }
+
+  -- on to the next address, with this state
+  abbrev pub moved : Bool → State → Stepped
+  moved planned s = record { number = 0; over = false; at = record { address = suc (a .address); planned = planned; state = s } }
+
+  -- the code adds one
+  pub moved-on : (planned : Bool) (s : State)
+      → record { number = 0; over = false; at = record { address = a .address + 1; planned = planned; state = s } } ≡ moved planned s
+  moved-on planned s =
+      ap (λ (address : ℕ). record { number = 0; over = false; at = record { address = address; planned = planned; state = s } }) (add-one (a .address))
+
+module _ (P : Program) (readings times : List ℤ) (n : ℕ) (a : At) where
+  module _ (o : Op) where
+    -- the machine after it
+    abbrev pub executed : Stepped
+    executed = record { number = 0; over = isReturn o; at = executes P readings times o a }
+
+    -- what the three tests decide
+    abbrev pub decided : Bool → Bool → Bool → Stepped
+    decided faulty late running =
+        elim (orElse faulty 19 (orElse late 16 (orElse running 17 0))) [ zero ↦ executed | suc m ↦ refusedWith a (suc m) ]
+
+    -- it is what the step comes to
+    pub decided-step : decided (isFaulty P n (a .planned) o) (timeBad P times o) (stillRunning (a .state) o) ≡ stepped P readings times n o a
+    unfolding stepped
+    decided-step = refl
+
+    -- 19: it is faulty
+    pub step-faulty : isFaulty P n (a .planned) o ≡ true → refusedWith a 19 ≡ stepped P readings times n o a
+    step-faulty e = (λ i. decided (sym e i) (timeBad P times o) (stillRunning (a .state) o)) ∙ decided-step
+
+    -- 16: the time that it is lent is not in range
+    pub step-late : isFaulty P n (a .planned) o ≡ false → timeBad P times o ≡ true → refusedWith a 16 ≡ stepped P readings times n o a
+    step-late e f = (λ i. decided (sym e i) (sym f i) (stillRunning (a .state) o)) ∙ decided-step
+
+    -- 17: its task is still running
+    pub step-running : isFaulty P n (a .planned) o ≡ false → timeBad P times o ≡ false → stillRunning (a .state) o ≡ true
+        → refusedWith a 17 ≡ stepped P readings times n o a
+    step-running e f g = (λ i. decided (sym e i) (sym f i) (sym g i)) ∙ decided-step
+
+    -- it is executed
+    pub step-executed : isFaulty P n (a .planned) o ≡ false → timeBad P times o ≡ false → stillRunning (a .state) o ≡ false
+        → executed ≡ stepped P readings times n o a
+    step-executed e f g = (λ i. decided (sym e i) (sym f i) (sym g i)) ∙ decided-step
+
+  -- an instruction is faulty too where its unused word is not 0
+  pub unused-faulty : (u : ℕ) (o : Op) → (ltb 0 u || isFaulty P n (a .planned) o) ≡ true
+      → refusedWith a 19 ≡ stepped P readings times n (unused u o) a
+  unused-faulty u o e = step-faulty (unused u o) (go u e)
+    where
+      go : (u : ℕ) → (ltb 0 u || isFaulty P n (a .planned) o) ≡ true → isFaulty P n (a .planned) (unused u o) ≡ true
+      go zero e = e
+      go (suc u) e = refl
+
+  -- where it is 0, the words say the instruction
+  pub unused-none : (u : ℕ) (o : Op) → ltb 0 u ≡ false → stepped P readings times n o a ≡ stepped P readings times n (unused u o) a
+  unused-none zero o e = refl
+  unused-none (suc u) o e = clash (lt-ltb 0 (suc u) (omega arith)) e
+
+  -- `jump`: its unused word is not 0, or its address is past the end
+  pub jump-refused : (to u : ℕ) → (ltb 0 u || leb n to) ≡ true → refusedWith a 19 ≡ stepped P readings times n (decode 3 to u) a
+  jump-refused to u e = unused-faulty u (jump to) e
+
+  -- it jumps
+  pub jump-executed : (to u : ℕ) → (ltb 0 u || leb n to) ≡ false
+      → record { number = 0; over = false; at = record { address = to; planned = a .planned; state = a .state } }
+      ≡ stepped P readings times n (decode 3 to u) a
+  jump-executed to u e =
+      let (none, inside) = neither (ltb 0 u) (leb n to) e in
+      step-executed (jump to) inside refl refl ∙ unused-none u (jump to) none
+
+  -- `future`: one was executed before, its delay is not in range, or its address is past the end
+  pub future-refused : (delay to : ℕ) → (a .planned || not (leb 1 delay && leb delay maxDelay) || leb n to) ≡ true
+      → refusedWith a 19 ≡ stepped P readings times n (decode 4 delay to) a
+  unfolding inRange
+  future-refused delay to e = step-faulty (future delay to) e
+
+  -- a block begins here
+  pub future-executed : (delay to : ℕ) → (a .planned || not (leb 1 delay && leb delay maxDelay) || leb n to) ≡ false
+      → record {
+        number = 0;
+        over = false;
+        at = record { address = a .address + 1; planned = true; state = planAt P readings times (a .address) delay to (a .state) };
+      }
+      ≡ stepped P readings times n (decode 4 delay to) a
+  unfolding inRange
+  future-executed delay to e = moved-on a true _ ∙ step-executed (future delay to) e refl refl
+
+  -- `return`: a word of it is not 0, or no `future` was executed
+  pub return-refused : (first second : ℕ) → (ltb 0 first || ltb 0 second || not (a .planned)) ≡ true
+      → refusedWith a 19 ≡ stepped P readings times n (decode 5 first second) a
+  return-refused first second e =
+      unused-faulty (first + second) return (ap (λ (b : Bool). b || not (a .planned)) (sym (either-some first second)) ∙ e)
+
+  -- the instant is over
+  pub return-executed : (first second : ℕ) → (ltb 0 first || ltb 0 second || not (a .planned)) ≡ false
+      → record { number = 0; over = true; at = a } ≡ stepped P readings times n (decode 5 first second) a
+  return-executed first second e =
+      let (none, planned) = neither (ltb 0 first || ltb 0 second) (not (a .planned)) e in
+      step-executed return planned refl refl ∙ unused-none (first + second) return (sym (either-some first second) ∙ none)

@@ -1,0 +1,48 @@
+-- What one instruction of E code comes to, as the code hands it on: 19, 16 or 17, or the machine after it, and whether it was the
+-- `return`. Assumes nothing.
+use Prim.Native.Nat.{ℕ, zero, suc, _^_, _≤_}
+use mathlib.Core.Bool.{true, false}
+use mathlib.Core.List.{List}
+use lib.IntN.{ℤ}
+use lib.ListN.{length}
+use Rattle.theory.specs.Verdict.{verdict}
+use Rattle.cells.specs.Cell.{rowsIn}
+use Rattle.cells.specs.Limits.{maxPorts, maxTasks, maxDrivers}
+use Rattle.program.specs.Tables.{portWidth, taskWidth, driverWidth}
+use Rattle.program.specs.Program.{Program}
+use Rattle.code.specs.Op.{Op}
+use Rattle.machine.specs.Instruction.{Call, namesNothing, stillCalled, called, instructionRefusals, executes}
+use Rattle.machine.specs.Instant.{isReturn, fetch}
+use Rattle.machine.specs.declared.State.{State}
+use Rattle.machine.specs.declared.Advanced.{Advanced}
+use Rattle.machine.specs.declared.At.{At}
+use Rattle.instants.specs.declared.instructions.Stepped.{Stepped}
+
+-- every address of an instruction is smaller, since its code has fewer than 2^64 words; so the next address fits 64 bits
+abbrev pub addressEnd : ℕ
+addressEnd = 2 ^ 63
+
+-- no more ports, tasks and drivers than the limits: every number of one that is declared fits its kind
+pub record Named (ports tasks drivers : List ℤ) : Type 0 where
+  pub few-ports : rowsIn portWidth ports ≤ maxPorts
+  pub few-tasks : rowsIn taskWidth tasks ≤ maxTasks
+  pub few-drivers : rowsIn driverWidth drivers ≤ maxDrivers
+
+module _ (P : Program) (readings times : List ℤ) where
+  -- a call: 19 if it names nothing, 17 if its task is still running, or the state after it
+  unfoldable pub callAnswer : State → Call → Advanced
+  callAnswer s c = elim (namesNothing P c) [
+    | true ↦ record { number = 19; state = s }
+    | false ↦ elim (stillCalled s c) [ true ↦ record { number = 17; state = s } | false ↦ record { number = 0; state = called P readings times s c } ]
+  ]
+
+  -- an instruction, in a code of n
+  unfoldable pub stepped : ℕ → Op → At → Stepped
+  stepped n o a = elim (verdict (instructionRefusals P readings times n o) a) [
+    | zero ↦ record { number = 0; over = isReturn o; at = executes P readings times o a }
+    | suc m ↦ record { number = suc m; over = false; at = a }
+  ]
+
+  -- the one that stands at the machine's address
+  abbrev pub stepAt : List Op → At → Stepped
+  stepAt code a = stepped (length code) (fetch P readings times code a) a

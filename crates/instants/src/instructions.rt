@@ -1,0 +1,237 @@
+// One instruction of E code: 19, 16 or 17, in that order, or the machine after it.
+ghost use mathlib.Core.Path.{_≡_};
+ghost use mathlib.Core.Bool.{false};
+ghost use mathlib.Core.List.{List};
+ghost use Prim.Native.Nat.{ℕ, suc, _≤_, _<_};
+ghost use lib.IntN.{ℤ};
+ghost use Rattle.cells.specs.Cell.{rowsIn};
+ghost use Rattle.cells.specs.Limits.{maxTasks, maxDrivers};
+ghost use Rattle.program.specs.Tables.{Tables, taskWidth, driverWidth};
+ghost use Rattle.program.specs.Program.{programOf};
+ghost use Rattle.code.specs.Op.{instructions, decode};
+ghost use Rattle.instants.specs.Step.{Named, addressEnd, stepped, stepAt};
+use crate::calls;
+use cells::columns::driver;
+use cells::columns::task;
+use cells::kinds::Driver;
+use cells::kinds::Task;
+use cells::limits::Program;
+use cells::table;
+use machine::At;
+use machine::State;
+use program::guard;
+use runs::turn;
+
+// 0, or 19, 16 or 17; whether it was the `return`; the machine after it, as it was if refused.
+pub struct Stepped {
+    pub number: usize,
+    pub over: bool,
+    pub at: At,
+}
+
+fn refused(number: usize, at: At) -> Stepped
+    ensures { λ r. ⌜ r ≡ record { number = number; over = false; at = at } ⌝ }
+{
+    Stepped {
+        number,
+        over: false,
+        at,
+    }
+}
+
+// On to the next address, with this state.
+fn moved(at: At, state: State) -> Stepped
+    requires { ⌜ at .address < addressEnd ⌝ }
+    ensures { λ r. ⌜ r ≡ record { number = 0; over = false; at = record { address = suc (at .address); planned = at .planned; state = state } } ⌝ }
+{
+    Stepped {
+        number: 0,
+        over: false,
+        at: At {
+            address: at.address + 1,
+            planned: at.planned,
+            state,
+        },
+    }
+}
+
+// `call n`.
+fn call(
+    ports: &[i32],
+    tasks: &[i32],
+    task_ports: &[i32],
+    drivers: &[i32],
+    copies: &[i32],
+    readings: &[i32],
+    n: usize,
+    unused: usize,
+    at: At,
+) -> Stepped
+    requires { ⌜ Named (now ports) (now tasks) (now drivers) ⌝ }
+    requires { ⌜ at .address < addressEnd ⌝ }
+    ensures { λ r. ⌜ ((T : Tables) → T .ports ≡ now (ports .entry) → T .tasks ≡ now (tasks .entry) → T .taskPorts ≡ now («task_ports» .entry) → T .drivers ≡ now (drivers .entry) → T .copies ≡ now (copies .entry) → (times : List ℤ) (count : ℕ) → r ≡ stepped (programOf T) (now (readings .entry)) times count (decode 0 n unused) at) ⌝ }
+{
+    if 0 < unused {
+        return refused(19, at);
+    }
+    let before = at.state;
+    let after = calls::call(
+        ports,
+        tasks,
+        task_ports,
+        drivers,
+        copies,
+        readings,
+        n,
+        before,
+    );
+    if 0 < after.number {
+        return refused(after.number, at);
+    }
+    let state = after.state;
+    moved(at, state)
+}
+
+// `schedule task`: it is released with the time lent for it.
+fn schedule(tasks: &[i32], times: &[i32], t: usize, unused: usize, at: At) -> Stepped
+    requires { ⌜ rowsIn taskWidth (now tasks) ≤ maxTasks ⌝ }
+    requires { ⌜ at .address < addressEnd ⌝ }
+    ensures { λ r. ⌜ ((T : Tables) → T .tasks ≡ now (tasks .entry) → (readings : List ℤ) (count : ℕ) → r ≡ stepped (programOf T) readings (now (times .entry)) count (decode 1 t unused) at) ⌝ }
+{
+    if (0 < unused) | (tasks.len() / task::WIDTH <= t) {
+        return refused(19, at);
+    }
+    let time = table::num(times, t);
+    let worst = table::field(tasks, task::WIDTH, t, task::WORST);
+    let in_range = (1 <= time) & (time <= worst);
+    if !in_range {
+        return refused(16, at);
+    }
+    let mut state = at.state;
+    let mut left = state.left;
+    if 0 < turn::left_of(&left, Task::of(t)) {
+        return refused(17, at);
+    }
+    if t < Program::TASKS {
+        left[t] = time;
+    }
+    state.left = left;
+    moved(at, state)
+}
+
+// `if driver address`: on at the address where the driver's guard holds.
+fn branch(drivers: &[i32], count: usize, d: usize, to: usize, at: At) -> Stepped
+    requires { ⌜ rowsIn driverWidth (now drivers) ≤ maxDrivers ⌝ }
+    requires { ⌜ at .address < addressEnd ⌝ }
+    ensures { λ r. ⌜ ((T : Tables) → T .drivers ≡ now (drivers .entry) → (readings times : List ℤ) → r ≡ stepped (programOf T) readings times count (decode 2 d to) at) ⌝ }
+{
+    if (drivers.len() / driver::WIDTH <= d) | (count <= to) {
+        return refused(19, at);
+    }
+    let state = at.state;
+    let ports = state.ports;
+    if guard::guard_holds(drivers, Driver::of(d), &ports) {
+        return jump(count, to, 0, at);
+    }
+    moved(at, state)
+}
+
+// `jump address`.
+fn jump(count: usize, to: usize, unused: usize, at: At) -> Stepped
+    ensures { λ r. ⌜ ((T : Tables) (readings times : List ℤ) → r ≡ stepped (programOf T) readings times count (decode 3 to unused) at) ⌝ }
+{
+    if (0 < unused) | (count <= to) {
+        return refused(19, at);
+    }
+    let mut next = at;
+    next.address = to;
+    Stepped {
+        number: 0,
+        over: false,
+        at: next,
+    }
+}
+
+// `future delay address`: a block begins here, and all suppliers are at its start.
+fn future(count: usize, delay: usize, to: usize, at: At) -> Stepped
+    requires { ⌜ at .address < addressEnd ⌝ }
+    ensures { λ r. ⌜ ((T : Tables) (readings times : List ℤ) → r ≡ stepped (programOf T) readings times count (decode 4 delay to) at) ⌝ }
+{
+    let in_range = (1 <= delay) & (delay <= Program::DELAY);
+    if at.planned | !in_range | (count <= to) {
+        return refused(19, at);
+    }
+    let mut state = at.state;
+    state.pending = to;
+    state.current = at.address;
+    state.elapsed = 0;
+    state.remaining = delay;
+    state.positions = [0; Program::SUPPLIERS];
+    Stepped {
+        number: 0,
+        over: false,
+        at: At {
+            address: at.address + 1,
+            planned: true,
+            state,
+        },
+    }
+}
+
+// `return`: the instant is over, if a `future` was executed in it.
+fn finish(first: usize, second: usize, at: At) -> Stepped
+    ensures { λ r. ⌜ ((T : Tables) (readings times : List ℤ) (count : ℕ) → r ≡ stepped (programOf T) readings times count (decode 5 first second) at) ⌝ }
+{
+    if (0 < first) | (0 < second) | !at.planned {
+        return refused(19, at);
+    }
+    Stepped {
+        number: 0,
+        over: true,
+        at,
+    }
+}
+
+// The instruction at the machine's address, by its number; past the end stands none.
+pub fn step(
+    ports: &[i32],
+    tasks: &[i32],
+    task_ports: &[i32],
+    drivers: &[i32],
+    copies: &[i32],
+    code: &[u32],
+    readings: &[i32],
+    times: &[i32],
+    at: At,
+) -> Stepped
+    requires { ⌜ Named (now ports) (now tasks) (now drivers) ⌝ }
+    ensures { λ r. ⌜ ((T : Tables) → T .ports ≡ now (ports .entry) → T .tasks ≡ now (tasks .entry) → T .taskPorts ≡ now («task_ports» .entry) → T .drivers ≡ now (drivers .entry) → T .copies ≡ now (copies .entry) → r ≡ stepAt (programOf T) (now (readings .entry)) (now (times .entry)) (instructions (now (code .entry))) at) ⌝ }
+{
+    let count = code.len() / Program::WORDS;
+    if count <= at.address {
+        return refused(19, at);
+    }
+    let place = at.address * Program::WORDS;
+    let number = table::word(code, place);
+    let first = table::word(code, place + 1);
+    let second = table::word(code, place + 2);
+    match number {
+        0 => call(
+            ports,
+            tasks,
+            task_ports,
+            drivers,
+            copies,
+            readings,
+            first,
+            second,
+            at,
+        ),
+        1 => schedule(tasks, times, first, second, at),
+        2 => branch(drivers, count, first, second, at),
+        3 => jump(count, first, second, at),
+        4 => future(count, first, second, at),
+        5 => finish(first, second, at),
+        _ => refused(19, at),
+    }
+}

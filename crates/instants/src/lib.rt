@@ -1,0 +1,81 @@
+// One instant of the E machine over lent words: from the pending address to `return`, in at most as many instructions as there are.
+ghost use mathlib.Core.Path.{_≡_};
+ghost use Rattle.program.specs.Tables.{Tables};
+ghost use Rattle.program.specs.Program.{programOf};
+ghost use Rattle.code.specs.Op.{instructions};
+ghost use Rattle.machine.specs.Instant.{ended, runInstant};
+ghost use Rattle.machine.specs.Advance.{answer};
+ghost use Rattle.instants.specs.Step.{Named};
+use cells::limits::Program;
+use machine::Advanced;
+use machine::At;
+use machine::State;
+
+pub mod calls;
+pub mod instructions;
+
+// All instructions were run: one more inside the code is 20, running off the end 19.
+fn spent(count: usize, address: usize, s: State) -> Advanced
+    ensures { λ r. ⌜ r ≡ answer s (ended count address) ⌝ }
+{
+    if address < count {
+        return Advanced {
+            number: 20,
+            state: s,
+        };
+    }
+    Advanced {
+        number: 19,
+        state: s,
+    }
+}
+
+// The instant, or its refusal with the state as it was.
+pub fn run(
+    ports: &[i32],
+    tasks: &[i32],
+    task_ports: &[i32],
+    drivers: &[i32],
+    copies: &[i32],
+    code: &[u32],
+    readings: &[i32],
+    times: &[i32],
+    s: State,
+) -> Advanced
+    requires { ⌜ Named (now ports) (now tasks) (now drivers) ⌝ }
+    ensures { λ r. ⌜ ((T : Tables) → T .ports ≡ now (ports .entry) → T .tasks ≡ now (tasks .entry) → T .taskPorts ≡ now («task_ports» .entry) → T .drivers ≡ now (drivers .entry) → T .copies ≡ now (copies .entry) → r ≡ answer s (runInstant (programOf T) (now (readings .entry)) (now (times .entry)) (instructions (now (code .entry))) s)) ⌝ }
+{
+    let count = code.len() / Program::WORDS;
+    let mut at = At {
+        address: s.pending,
+        planned: false,
+        state: s,
+    };
+    let mut more = count;
+    while 0 < more {
+        let next = instructions::step(
+            ports,
+            tasks,
+            task_ports,
+            drivers,
+            copies,
+            code,
+            readings,
+            times,
+            at,
+        );
+        if 0 < next.number {
+            return Advanced {
+                number: next.number,
+                state: s,
+            };
+        }
+        at = next.at;
+        if next.over {
+            let state = at.state;
+            return Advanced { number: 0, state };
+        }
+        more -= 1;
+    }
+    spent(count, at.address, s)
+}

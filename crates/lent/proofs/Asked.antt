@@ -1,0 +1,35 @@
+-- What every call that is lent the tables and more asks of them after its own 1: it comes before the call's own numbers, and tables
+-- that pass it are those of an accepted program whose code is within the limit. Assumes nothing; of accepted tables, that they have
+-- their shape.
+use Prim.Native.Nat.{ℕ}
+use mathlib.Core.Path.{_≡_, ap, _∙_}
+use mathlib.Core.Bool.{false}
+use mathlib.Core.List.{List, [], _∷_, _++_, map}
+use native.Mathlib.Omega.{arith}
+use lib.ListN.{length}
+use borrow.Author.Tests.{ltb-false}
+use Rattle.theory.specs.Verdict.{Refusal, within, verdict}
+use Rattle.theory.proofs.Conditions.{or-else-no}
+use Rattle.theory.proofs.Verdict.{after, verdict-clear, verdict-append, verdict-both, verdict-within}
+use Rattle.cells.specs.Limits.{maxCode}
+use Rattle.program.specs.Tables.{Tables}
+use Rattle.rules.specs.Shape.{shapeBad}
+use Rattle.rules.specs.Verdict.{tableRefusals, programVerdict}
+use Rattle.code.specs.Compile.{listingOf, codeLong, longRefusal, CodeFits}
+use Rattle.lent.specs.Tables.{lentVerdict}
+
+-- what a call asks of the tables after its own 1, and then of its own
+pub lent-first : {A : Type 0} (tables : A → Tables) (own : List (Refusal A)) (x : A)
+    → verdict (map (within tables) (tableRefusals ++ (longRefusal ∷ [])) ++ own) x ≡ after (lentVerdict (tables x)) (verdict own x)
+unfolding lentVerdict
+lent-first tables own x =
+    verdict-append (map (within tables) (tableRefusals ++ (longRefusal ∷ []))) own x (omega arith)
+    ∙ ap (λ (n : ℕ). after n (verdict own x)) (verdict-within tables (tableRefusals ++ (longRefusal ∷ [])) x)
+
+-- tables with their shape that no number up to 11 refuses: the program is accepted, and its code is within the limit
+pub lent-none : (T : Tables) → shapeBad T ≡ false → lentVerdict T ≡ 0 → (programVerdict T ≡ 0) × CodeFits T
+unfolding lentVerdict programVerdict codeLong
+lent-none T s e =
+    let v = verdict-both tableRefusals (longRefusal ∷ []) T (omega arith) e in
+    let f = verdict-clear (longRefusal ∷ []) T (omega arith) (v .1) .0 in
+    (or-else-no 1 (verdict tableRefusals T) s ∙ v .0, ltb-false maxCode (length (listingOf T)) f)

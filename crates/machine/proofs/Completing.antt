@@ -1,0 +1,31 @@
+-- The local outputs after a tick of a task: where it completes, and where it does not.
+-- Assumes, of a task that completes, that it is declared.
+use Prim.Native.Nat.{ℕ, _<_}
+use mathlib.Core.Path.{_≡_, sym, ap, _∙_}
+use mathlib.Core.List.{List}
+use lib.IntN.{ℤ}
+use borrow.Author.Tests.{eq-eqb, ne-eqb}
+use Rattle.theory.specs.Lists.{puts}
+use Rattle.program.specs.Tables.{Tables, output, taskCount}
+use Rattle.program.specs.Program.{Program, Task, portsOf, programOf, task}
+use Rattle.program.specs.Ports.{valueOf, takes}
+use Rattle.program.proofs.Decoded.{task-row}
+use Rattle.runs.specs.Tick.{leftOf}
+use Rattle.machine.specs.declared.State.{State}
+use Rattle.machine.specs.Schedules.{outputsAfter}
+
+-- in its last tick a task completes, and its results are put into its local outputs
+pub outputs-done : (P : Program) (results : List ℤ) (s : State) (t : ℕ) → leftOf (s .left) t ≡ 1
+    → outputsAfter P results s t ≡ puts (takes (valueOf results) (task P t .outputs)) (s .outputs)
+outputs-done P results s t e = rw (eq-eqb (leftOf (s .left) t) 1 e, outputsAfter)
+
+-- in any other tick the local outputs are as before
+pub outputs-same : (P : Program) (results : List ℤ) (s : State) (t : ℕ) → (leftOf (s .left) t ≡ 1 → ⊥) → outputsAfter P results s t ≡ s .outputs
+outputs-same P results s t n = rw (ne-eqb (leftOf (s .left) t) 1 n, outputsAfter)
+
+-- the outputs of a declared task are those of its rows
+pub completes : (T : Tables) (results : List ℤ) (s : State) (t : ℕ) → t < taskCount T → leftOf (s .left) t ≡ 1
+    → puts (takes (valueOf results) (portsOf T output t)) (s .outputs) ≡ outputsAfter (programOf T) results s t
+completes T results s t l e =
+    ap (λ (k : Task). puts (takes (valueOf results) (k .outputs)) (s .outputs)) (sym (task-row T t l))
+    ∙ sym (outputs-done (programOf T) results s t e)

@@ -1,0 +1,146 @@
+// The kind `long`: a system a case, how many ticks, and what is lent to all of them alike; the number and the state after the last, or
+// at the first refusal, a line.
+use crate::lines;
+use crate::systems;
+use crate::systems::Lent;
+use crate::systems::System;
+use cases::numbers;
+use cases::out::Answer;
+use cases::room;
+use cases::stream::Reader;
+use cases::tables::Lengths;
+use cells::parts::part;
+use machine::Advanced;
+use machine::State;
+
+// So many ticks, up to the first that is refused.
+fn ticks(
+    n: usize,
+    l: Lengths,
+    room: &[i32],
+    code: &[u32],
+    rows: &[i32],
+    s: State,
+    x: Lent,
+    readings: &[i32],
+    results: &[i32],
+    times: &[i32],
+) -> Advanced {
+    let mut at = Advanced {
+        number: 0,
+        state: s,
+    };
+    let mut i = 0;
+    while i < n {
+        if 0 < at.number {
+            return at;
+        }
+        let state = at.state;
+        at = systems::advanced(l, room, code, rows, state, x, readings, results, times);
+        i += 1;
+    }
+    at
+}
+
+// How many ticks, and what is lent to each.
+struct Alike {
+    count: usize,
+    lent: Lent,
+}
+
+fn read_alike(
+    r: Reader,
+    buffer: &mut [u8],
+    readings: &mut [i32],
+    results: &mut [i32],
+    times: &mut [i32],
+) -> Alike {
+    let amount = numbers::count(r, buffer);
+    let lent = systems::read_lent(amount.reader, buffer, readings, results, times);
+    Alike {
+        count: amount.value,
+        lent,
+    }
+}
+
+// All that was read of a case.
+struct Long {
+    system: System,
+    alike: Alike,
+}
+
+fn read_case(
+    r: Reader,
+    buffer: &mut [u8],
+    room: &mut [i32],
+    code: &mut [u32],
+    rows: &mut [i32],
+    readings: &mut [i32],
+    results: &mut [i32],
+    times: &mut [i32],
+) -> Long {
+    let system = systems::read_system(r, buffer, room, code, rows);
+    let alike = read_alike(system.reader, buffer, readings, results, times);
+    Long { system, alike }
+}
+
+// Its line; false where it could not be written. A refused reader has none.
+fn judged(
+    a: Long,
+    room: &[i32],
+    code: &[u32],
+    rows: &[i32],
+    readings: &[i32],
+    results: &[i32],
+    times: &[i32],
+) -> bool {
+    let alike = a.alike;
+    let lent = alike.lent;
+    let reader = lent.reader;
+    if !reader.ok {
+        return true;
+    }
+    let system = a.system;
+    let program = system.program;
+    let state = system.state;
+    lines::line(ticks(
+        alike.count,
+        program,
+        room,
+        systems::kept(code, system.code),
+        part(rows, 0, system.rows),
+        state,
+        lent,
+        readings,
+        results,
+        times,
+    ))
+}
+
+pub fn case(r: Reader, buffer: &mut [u8]) -> Answer {
+    let mut room = [0i32; room::ALL];
+    let mut code = [0u32; room::CODE];
+    let mut rows = [0i32; room::SCHEDULE];
+    let mut readings = [0i32; room::BY_PORT];
+    let mut results = [0i32; room::BY_PORT];
+    let mut times = [0i32; room::BY_TASK];
+    let a = read_case(
+        r,
+        buffer,
+        &mut room,
+        &mut code,
+        &mut rows,
+        &mut readings,
+        &mut results,
+        &mut times,
+    );
+    let written = judged(a, &room, &code, &rows, &readings, &results, &times);
+    let alike = a.alike;
+    let lent = alike.lent;
+    let reader = lent.reader;
+    Answer {
+        reader,
+        known: true,
+        written,
+    }
+}

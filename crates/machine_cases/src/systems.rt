@@ -1,0 +1,125 @@
+// What the kinds of the machine read: a program, E code, joined schedule and state; and what is lent to a tick.
+use cases::room;
+use cases::states;
+use cases::stream::Reader;
+use cases::tables;
+use cases::tables::Lengths;
+use cases::words;
+use cells::parts::least;
+use cells::parts::part;
+use machine::Advanced;
+use machine::State;
+
+// How many words of the code and numbers of the schedule were kept.
+pub struct System {
+    pub program: Lengths,
+    pub code: usize,
+    pub rows: usize,
+    pub reader: Reader,
+    pub state: State,
+}
+
+// How many numbers of each slice were kept.
+pub struct Lent {
+    pub reader: Reader,
+    pub readings: usize,
+    pub results: usize,
+    pub times: usize,
+}
+
+// How many words and numbers of code and schedule were kept.
+struct Listed {
+    reader: Reader,
+    code: usize,
+    rows: usize,
+}
+
+fn read_code(r: Reader, buffer: &mut [u8], code: &mut [u32], rows: &mut [i32]) -> Listed {
+    let own_code = words::slice(r, buffer, code);
+    let own_rows = tables::slice(own_code.reader, buffer, rows);
+    let reader = own_rows.reader;
+    Listed {
+        reader,
+        code: own_code.len,
+        rows: own_rows.len,
+    }
+}
+
+pub fn read_system(
+    r: Reader,
+    buffer: &mut [u8],
+    room: &mut [i32],
+    code: &mut [u32],
+    rows: &mut [i32],
+) -> System {
+    let program = tables::program(r, buffer, room);
+    let listed = read_code(program.reader, buffer, code, rows);
+    let standing = states::state(listed.reader, buffer);
+    let reader = standing.reader;
+    let state = standing.state;
+    System {
+        program,
+        code: listed.code,
+        rows: listed.rows,
+        reader,
+        state,
+    }
+}
+
+pub fn read_lent(
+    r: Reader,
+    buffer: &mut [u8],
+    readings: &mut [i32],
+    results: &mut [i32],
+    times: &mut [i32],
+) -> Lent {
+    let own_readings = tables::slice(r, buffer, readings);
+    let own_results = tables::slice(own_readings.reader, buffer, results);
+    let own_times = tables::slice(own_results.reader, buffer, times);
+    let reader = own_times.reader;
+    Lent {
+        reader,
+        readings: own_readings.len,
+        results: own_results.len,
+        times: own_times.len,
+    }
+}
+
+// The words that were kept.
+pub fn kept(code: &[u32], n: usize) -> &[u32] {
+    let end = least(n, code.len());
+    &code[..end]
+}
+
+// An advance of what was read.
+pub fn advanced(
+    l: Lengths,
+    room: &[i32],
+    code: &[u32],
+    rows: &[i32],
+    s: State,
+    x: Lent,
+    readings: &[i32],
+    results: &[i32],
+    times: &[i32],
+) -> Advanced {
+    operation::advance(
+        part(room, room::PORTS_AT, l.ports),
+        part(room, room::TASKS_AT, l.tasks),
+        part(room, room::TASK_PORTS_AT, l.task_ports),
+        part(room, room::DRIVERS_AT, l.drivers),
+        part(room, room::COPIES_AT, l.copies),
+        part(room, room::MODES_AT, l.modes),
+        part(room, room::MODE_PORTS_AT, l.mode_ports),
+        part(room, room::INVOCATIONS_AT, l.invocations),
+        part(room, room::UPDATES_AT, l.updates),
+        part(room, room::SWITCHES_AT, l.switches),
+        l.start,
+        code,
+        rows,
+        s,
+        part(readings, 0, x.readings),
+        part(results, 0, x.results),
+        part(times, 0, x.times),
+    )
+}

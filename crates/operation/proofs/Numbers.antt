@@ -1,0 +1,90 @@
+-- The number of an advance: its own 1, what every call asks of the tables, then 13 and 21; and what is known where there is none.
+-- Assumes nothing; of what runs, that its number is 0.
+use Prim.Native.Nat.{ℕ, _/_, _≤_, _<_}
+use mathlib.Core.Path.{_≡_, sym, ap, _∙_}
+use mathlib.Core.Bool.{true, false}
+use mathlib.Core.List.{List, [], _∷_, _++_, map}
+use native.Mathlib.Omega.{arith}
+use lib.ListN.{length}
+use Rattle.theory.specs.Verdict.{Refusal, orElse, within}
+use Rattle.theory.proofs.Bools.{bars-iff}
+use Rattle.theory.proofs.Conditions.{or-else-yes, or-else-no}
+use Rattle.theory.proofs.Verdict.{after, after-given, verdict-clear, verdict-both}
+use Rattle.cells.specs.Limits.{maxDrivers, maxCode, wordsEach}
+use Rattle.program.specs.Tables.{driverWidth}
+use Rattle.rules.specs.Shape.{shapeBad}
+use Rattle.rules.specs.Verdict.{tableRefusals}
+use Rattle.rules.proofs.Shape.{shape-bars, whole-few, ports-few, tasks-few}
+use Rattle.code.specs.Compile.{longRefusal}
+use Rattle.lent.specs.Tables.{lentVerdict}
+use Rattle.lent.proofs.Asked.{lent-first}
+use Rattle.suppliers.specs.Schedule.{joinedBad, Rows}
+use Rattle.suppliers.proofs.Schedule.{joined-bars}
+use Rattle.machine.specs.Advance.{Advance, advanceShapeBad, AdvanceShaped, stateBad, StateFits, runRefusals, advanceRefusals, advanceVerdict}
+use Rattle.machine.proofs.Fits.{advance-shape-bars, state-bars}
+use Rattle.instants.specs.Step.{Named}
+
+-- 1, then 2 to 11 of the tables, then 13 and 21
+advance-number : (L : Advance)
+    → advanceVerdict L
+    ≡ orElse (advanceShapeBad L) 1 (after (lentVerdict (L .tables)) (orElse (joinedBad (L .tables) (L .schedule)) 13 (orElse (stateBad L) 21 0)))
+unfolding advanceVerdict
+advance-number L = ap (orElse (advanceShapeBad L) 1) (lent-first (λ (L : Advance). L .tables) runRefusals L)
+
+module _ (L : Advance) where
+  -- something that is lent does not have its shape
+  pub advance-one : advanceShapeBad L ≡ true → advanceVerdict L ≡ 1
+  advance-one e = advance-number L ∙ or-else-yes 1 _ e
+
+  -- everything has its shape: so have the tables
+  pub advance-shaped : advanceShapeBad L ≡ false → shapeBad (L .tables) ≡ false
+  advance-shaped e = bars-iff (shape-bars (L .tables)) .1 (advance-shape-bars L .ok e .tables)
+
+  module _ (s : advanceShapeBad L ≡ false) where
+    -- a number that every call asks for
+    pub advance-given : (n : ℕ) → n ≡ lentVerdict (L .tables) → 0 < n → advanceVerdict L ≡ n
+    advance-given n e l =
+        let own = orElse (joinedBad (L .tables) (L .schedule)) 13 (orElse (stateBad L) 21 0) in
+        advance-number L ∙ or-else-no 1 _ s ∙ ap (λ (k : ℕ). after k own) (sym e) ∙ after-given n own l
+
+    -- none of them: 13 and 21 decide
+    pub advance-own : lentVerdict (L .tables) ≡ 0
+        → advanceVerdict L ≡ orElse (joinedBad (L .tables) (L .schedule)) 13 (orElse (stateBad L) 21 0)
+    advance-own e =
+        advance-number L ∙ or-else-no 1 _ s ∙ ap (λ (k : ℕ). after k (orElse (joinedBad (L .tables) (L .schedule)) 13 (orElse (stateBad L) 21 0))) e
+
+-- what an advance asks before 13
+abbrev before : List (Refusal Advance)
+before = record { number = 1; applies = advanceShapeBad } ∷ map (within (λ (L : Advance). L .tables)) (tableRefusals ++ (longRefusal ∷ []))
+
+module _ (L : Advance) (e : advanceVerdict L ≡ 0) where
+  -- everything has its shape
+  pub runs-shaped : AdvanceShaped L
+  unfolding advanceVerdict
+  runs-shaped = advance-shape-bars L .ok (verdict-clear advanceRefusals L (omega arith) e .0)
+
+  -- so every number of a port, task or driver that is declared fits its kind
+  pub runs-named : Named (L .tables .ports) (L .tables .tasks) (L .tables .drivers)
+  runs-named = record {
+    few-ports = ports-few (L .tables) (runs-shaped .tables);
+    few-tasks = tasks-few (L .tables) (runs-shaped .tables);
+    few-drivers = whole-few driverWidth maxDrivers (L .tables .drivers) (runs-shaped .tables .drivers);
+  }
+
+  -- and there are no more instructions than the limit
+  pub runs-few : length (L .code) / wordsEach ≤ maxCode
+  runs-few = whole-few wordsEach maxCode (L .code) (runs-shaped .code)
+
+  -- neither 13 nor 21 applies
+  own-clear : (joinedBad (L .tables) (L .schedule) ≡ false) × (stateBad L ≡ false)
+  unfolding advanceVerdict
+  own-clear =
+      let c = verdict-clear runRefusals L (omega arith) (verdict-both before runRefusals L (omega arith) e .1) in (c .0, c .1 .0)
+
+  -- the schedule's rows are right
+  pub runs-rows : Rows (L .tables) (L .schedule)
+  runs-rows = joined-bars (L .tables) (L .schedule) .ok (own-clear .0) .rows
+
+  -- and the state is within its limits
+  pub runs-state : StateFits L
+  runs-state = state-bars L .ok (own-clear .1)

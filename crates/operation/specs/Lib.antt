@@ -1,0 +1,2 @@
+-- What an advance is lent.
+pub mod Lent
