@@ -1,8 +1,7 @@
 -- What an accepted advance changes, and how long its instant may be, of the definitions. Assumes nothing.
-use Prim.Native.Nat.{ℕ, _+_, _/_, _%_, _^_, _≤_}
+use Prim.Native.Nat.{ℕ, _+_, _%_, _^_, _≤_}
 use mathlib.Core.Path.{_≡_, ap, subst, _∙_}
 use mathlib.Core.Logic.{_⊎_, inl, inr}
-use lib.ListN.{length}
 use Rattle.program.specs.Program.{programOf}
 use Rattle.code.specs.Op.{instructions}
 use Rattle.code.proofs.Fetch.{instructions-length}

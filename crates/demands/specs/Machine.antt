@@ -1,7 +1,7 @@
 -- Demand 1 for the machine, as statements: what an accepted advance changes, and how long its instant may be. (That a refusal hands
 -- the state back is `RefusedKeeps` in Calls.antt; 16 to 20 stand in machine/specs as claims of what is executed.) Proved in
 -- proofs/Machine.antt. Assumes nothing.
-use Prim.Native.Nat.{ℕ, _+_, _/_, _%_, _^_}
+use Prim.Native.Nat.{_+_, _/_, _%_, _^_}
 use mathlib.Core.Path.{_≡_}
 use lib.ListN.{length}
 use Rattle.cells.specs.Limits.{wordsEach}

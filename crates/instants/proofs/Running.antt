@@ -2,7 +2,7 @@
 -- ends it. Assumes nothing.
 use Prim.Native.Nat.{ℕ, zero, suc, _-_, _/_, _≤_, _<_}
 use mathlib.Core.Path.{_≡_, refl, sym, ap, _∙_}
-use mathlib.Core.Bool.{Bool, true, false}
+use mathlib.Core.Bool.{true, false}
 use mathlib.Core.List.{List}
 use native.Mathlib.Omega.{arith}
 use lib.IntN.{ℤ}
@@ -17,8 +17,9 @@ use Rattle.machine.specs.declared.State.{State}
 use Rattle.machine.specs.declared.Advanced.{Advanced}
 use Rattle.machine.specs.declared.At.{At}
 use Rattle.machine.specs.Instruction.{executes}
-use Rattle.machine.specs.Instant.{Outcome, ok, stop, isReturn, ended, fetch, refusalAt, run, startAt, runInstant}
+use Rattle.machine.specs.Instant.{ok, stop, isReturn, ended, fetch, refusalAt, run, startAt, runInstant}
 use Rattle.machine.specs.Advance.{answer}
+use Rattle.machine.proofs.Instants.{passes, at-return, at-refusal}
 use Rattle.instants.specs.declared.instructions.Stepped.{Stepped}
 use Rattle.instants.specs.Step.{stepped, stepAt}
 
@@ -49,54 +50,48 @@ module _ (P : Program) (readings times : List ℤ) where
       | suc m ↦ record { number = suc m; over = false; at = a }
     ]
 
-    -- the run after it, if it is not refused
-    abbrev goes : ℕ → Bool → Outcome
-    goes count over = elim over [
-      | true ↦ ok (a .state)
-      | false ↦ run P readings times code count (executes P readings times (fetch P readings times code a) a)
-    ]
-
-    -- the run that begins with it, by its refusal
-    abbrev runBy : ℕ → ℕ → Outcome
-    runBy count v = elim v [ zero ↦ goes count (isReturn (fetch P readings times code a)) | suc n ↦ stop (suc n) ]
-
-    -- it comes to that
-    by-refusal : r ≡ stepBy (refusalAt P readings times code a)
+    -- its number is its refusal's
+    refusal : refusalAt P readings times code a ≡ r .number
     unfolding stepped
-    by-refusal = e
-
-    -- so does the run
-    one-more : (more : ℕ) → 0 < more → run P readings times code more a ≡ runBy (more - 1) (refusalAt P readings times code a)
-    one-more more l = let z : more ≡ suc (more - 1) = omega arith in ap (λ (k : ℕ). run P readings times code k a) z
-
-    -- the instant is refused
-    pub run-refused : (more : ℕ) → 0 < more → 0 < r .number → run P readings times code more a ≡ stop (r .number)
-    run-refused more l h = one-more more l ∙ go (refusalAt P readings times code a) by-refusal
+    refusal = go (refusalAt P readings times code a) ∙ sym (ap (λ (q : Stepped). q .number) e)
       where
-        go : (v : ℕ) → r ≡ stepBy v → runBy (more - 1) v ≡ stop (r .number)
-        go zero f = let z : r .number ≡ 0 = ap (λ (q : Stepped). q .number) f in absurd (omega arith)
-        go (suc v) f = ap (λ (q : Stepped). stop (q .number)) (sym f)
+        go : (v : ℕ) → v ≡ stepBy v .number
+        go zero = refl
+        go (suc v) = refl
 
-    -- it is over
-    pub run-over : (more : ℕ) → 0 < more → r .number ≤ 0 → r .over ≡ true → run P readings times code more a ≡ ok (r .at .state)
-    run-over more l h y = one-more more l ∙ go (refusalAt P readings times code a) by-refusal
-      where
-        go : (v : ℕ) → r ≡ stepBy v → runBy (more - 1) v ≡ ok (r .at .state)
-        go zero f =
-            let returns : isReturn (fetch P readings times code a) ≡ true = sym (ap (λ (q : Stepped). q .over) f) ∙ y in
-            ap (goes (more - 1)) returns
-            ∙ ap (λ (m : At). ok (m .state)) (sym (ap (λ (q : Stepped). q .at) f ∙ return-stays (fetch P readings times code a) a returns))
-        go (suc v) f = let z : r .number ≡ suc v = ap (λ (q : Stepped). q .number) f in absurd (omega arith)
+    -- without one it is executed
+    executed : r .number ≤ 0 → r ≡ stepBy 0
+    unfolding stepped
+    executed h = let z : refusalAt P readings times code a ≡ 0 = omega (arith, refusal) in e ∙ ap stepBy z
 
-    -- it goes on
-    pub run-goes : (more : ℕ) → 0 < more → r .number ≤ 0 → r .over ≡ false → run P readings times code more a ≡ run P readings times code (more - 1) (r .at)
-    run-goes more l h y = one-more more l ∙ go (refusalAt P readings times code a) by-refusal
-      where
-        go : (v : ℕ) → r ≡ stepBy v → runBy (more - 1) v ≡ run P readings times code (more - 1) (r .at)
-        go zero f =
-            let goes-on : isReturn (fetch P readings times code a) ≡ false = sym (ap (λ (q : Stepped). q .over) f) ∙ y in
-            ap (goes (more - 1)) goes-on ∙ ap (λ (q : Stepped). run P readings times code (more - 1) (q .at)) (sym f)
-        go (suc v) f = let z : r .number ≡ suc v = ap (λ (q : Stepped). q .number) f in absurd (omega arith)
+    module _ (more : ℕ) (l : 0 < more) where
+      -- one of the count is its own
+      own : more ≡ suc (more - 1)
+      own = omega arith
+
+      -- the instant is refused
+      pub run-refused : 0 < r .number → run P readings times code more a ≡ stop (r .number)
+      run-refused h =
+          ap (λ (k : ℕ). run P readings times code k a) own ∙ at-refusal P readings times code (more - 1) a (r .number) (omega arith) refusal
+
+      -- it is over
+      pub run-over : r .number ≤ 0 → r .over ≡ true → run P readings times code more a ≡ ok (r .at .state)
+      run-over h y =
+          let x = executed h in
+          let z : refusalAt P readings times code a ≡ 0 = omega (arith, refusal) in
+          let returns : isReturn (fetch P readings times code a) ≡ true = sym (ap (λ (q : Stepped). q .over) x) ∙ y in
+          ap (λ (k : ℕ). run P readings times code k a) own
+          ∙ at-return P readings times code (more - 1) a z returns
+          ∙ ap (λ (m : At). ok (m .state)) (sym (ap (λ (q : Stepped). q .at) x ∙ return-stays (fetch P readings times code a) a returns))
+
+      -- it goes on
+      pub run-goes : r .number ≤ 0 → r .over ≡ false → run P readings times code more a ≡ run P readings times code (more - 1) (r .at)
+      run-goes h y =
+          let x = executed h in
+          let z : refusalAt P readings times code a ≡ 0 = omega (arith, refusal) in
+          ap (λ (k : ℕ). run P readings times code k a) own
+          ∙ passes P readings times code (more - 1) a z (sym (ap (λ (q : Stepped). q .over) x) ∙ y)
+          ∙ ap (λ (m : At). run P readings times code (more - 1) m) (sym (ap (λ (q : Stepped). q .at) x))
 
   module _ (words : List ℕ) (s : State) where
     -- what is left to run from here is what was to run from the start

@@ -67,7 +67,7 @@ module _ (P : Program) (readings times : List ℤ) (code : List Op) where
       go (suc n) e false f c = inl (record { before = 0; last = a; in-count = omega arith; goes = refl; some-number = omega arith; refused = e })
 
   -- one instruction that is not refused and no `return`
-  passes : (count : ℕ) (a : At) → refusalAt P readings times code a ≡ 0 → isReturn (fetch P readings times code a) ≡ false
+  pub passes : (count : ℕ) (a : At) → refusalAt P readings times code a ≡ 0 → isReturn (fetch P readings times code a) ≡ false
       → run P readings times code (suc count) a ≡ run P readings times code count (executes P readings times (fetch P readings times code a) a)
   passes count a r e = rw (r, run) (rw e)
 
@@ -84,10 +84,12 @@ module _ (P : Program) (readings times : List ℤ) (code : List Op) where
       ∙ follow n count (executes P readings times (fetch P readings times code a) a) b (omega arith) (g .2)
       ∙ ap (λ (c : ℕ). run P readings times code c b) z
 
-  at-return : (count : ℕ) (a : At) → refusalAt P readings times code a ≡ 0 → isReturn (fetch P readings times code a) ≡ true → run P readings times code (suc count) a ≡ ok (a .state)
+  -- a `return` that is not refused ends it
+  pub at-return : (count : ℕ) (a : At) → refusalAt P readings times code a ≡ 0 → isReturn (fetch P readings times code a) ≡ true → run P readings times code (suc count) a ≡ ok (a .state)
   at-return count a r e = rw (r, run) (rw e)
 
-  at-refusal : (count : ℕ) (a : At) (n : ℕ) → 1 ≤ n → refusalAt P readings times code a ≡ n → run P readings times code (suc count) a ≡ stop n
+  -- a refusal does, with its number
+  pub at-refusal : (count : ℕ) (a : At) (n : ℕ) → 1 ≤ n → refusalAt P readings times code a ≡ n → run P readings times code (suc count) a ≡ stop n
   at-refusal count a zero l r = absurd (omega arith)
   at-refusal count a (suc n) l r = rw (r, run)
 

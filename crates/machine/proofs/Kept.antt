@@ -1,10 +1,10 @@
 -- What an instant of E code leaves as it was: instruction by instruction, none writes more than specs/Moves.antt says.
 -- Assumes nothing.
 use Prim.Native.Nat.{ℕ, zero, suc, _<_}
-use mathlib.Core.Path.{_≡_, refl, sym, ap, subst, _∙_}
+use mathlib.Core.Path.{_≡_, refl, sym, subst, _∙_}
 use mathlib.Core.Bool.{Bool, true, false, _||_, not}
 use mathlib.Core.List.{List, [], map}
-use mathlib.Core.Logic.{_⊎_, inl, inr}
+use mathlib.Core.Logic.{inl, inr}
 use native.Mathlib.Omega.{arith}
 use native.Mathlib.Decide.{ℕ-discrete, decLt}
 use lib.Dec.{leb}
@@ -12,9 +12,9 @@ use lib.IntN.{ℤ, pos}
 use lib.ListN.{length, getD, set, List·getD-eq-default}
 use lib.Seq.{getD-set-same, getD-set-other, set-out}
 use borrow.Author.Tests.{leb-false}
-use Rattle.theory.specs.Lists.{member, Put, puts}
+use Rattle.theory.specs.Lists.{member}
 use Rattle.theory.proofs.Bools.{clash, neither, is-true, bars-not, says-itself}
-use Rattle.theory.proofs.Members.{Has, has-then, has-as, has-map, member-says}
+use Rattle.theory.proofs.Members.{has-as, has-map, member-says}
 use Rattle.theory.proofs.Puts.{Wrote, puts-other}
 use Rattle.theory.proofs.Verdict.{Clear, verdict-clear}
 use Rattle.cells.specs.Cell.{numAt}

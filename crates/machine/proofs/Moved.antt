@@ -11,9 +11,7 @@ use lib.Dec.{eqb}
 use lib.IntN.{ℤ, pos}
 use lib.ListN.{length, set, List·getD-eq-default}
 use lib.Seq.{getD-set-same, getD-set-other, set-out}
-use borrow.Author.Tests.{eq-eqb, ne-eqb, eqb-true}
 use Rattle.theory.specs.Lists.{member, puts}
-use Rattle.theory.proofs.Bools.{clash}
 use Rattle.theory.proofs.Puts.{puts-other}
 use Rattle.program.specs.Program.{Program, programOf, task}
 use Rattle.program.specs.Ports.{valueOf, takes}
@@ -22,10 +20,10 @@ use Rattle.runs.specs.Tick.{leftOf, run, after}
 use Rattle.code.specs.Op.{Op, instructions}
 use Rattle.machine.specs.declared.State.{State}
 use Rattle.machine.specs.declared.Advanced.{Advanced}
-use Rattle.machine.specs.Instant.{Outcome, ok, stop, startAt, runInstant, Ends}
+use Rattle.machine.specs.Instant.{Outcome, ok, stop, startAt, Ends}
 use Rattle.machine.specs.Schedules.{Who, nobody, one, several, running, outputsAfter, afterTick, ticked, tickAll}
-use Rattle.machine.specs.Advance.{Lent, Advance, advanceVerdict, ready, step, answer, advanceAnswer}
-use Rattle.machine.specs.Moves.{Worked, Works, Passes, Instanted, Advances}
+use Rattle.machine.specs.Advance.{Advance, advanceVerdict, ready, step, answer, advanceAnswer}
+use Rattle.machine.specs.Moves.{Works, Passes, Instanted, Advances}
 use Rattle.machine.proofs.Outcomes.{ok-not-stop, finished}
 use Rattle.machine.proofs.Completing.{outputs-done, outputs-same}
 use Rattle.machine.proofs.Instants.{instant-ends}

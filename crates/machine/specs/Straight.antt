@@ -8,7 +8,7 @@ use lib.IntN.{ℤ}
 use lib.ListN.{set}
 use Rattle.cells.specs.Cell.{numAt}
 use Rattle.program.specs.Program.{Program}
-use Rattle.code.specs.Op.{Op, call, schedule, branch, jump, future, return, faulty}
+use Rattle.code.specs.Op.{Op, call, schedule}
 use Rattle.machine.specs.declared.State.{State}
 use Rattle.machine.specs.Change.{withLeft}
 use Rattle.machine.specs.Instruction.{callOf, called, isFaulty, timeBad, stillRunning}

@@ -1,6 +1,5 @@
 -- `machine_cases::lines::values` is safe and ends. Assumes nothing.
 use Prim.Native.Nat.{_-_}
-use mathlib.Core.Path.{_≡_}
 use lib.ListN.{length}
 use borrow.Author.Needs.{needs}
 use Rattle.machine_cases.proofs.lines.values.Statement.{statement}

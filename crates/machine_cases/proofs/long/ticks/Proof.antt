@@ -1,7 +1,5 @@
 -- `machine_cases::long::ticks` is safe and ends. Assumes nothing.
 use Prim.Native.Nat.{_-_}
-use mathlib.Core.Path.{_≡_}
-use lib.ListN.{length}
 use borrow.Author.Needs.{needs}
 use Rattle.machine_cases.proofs.long.ticks.Statement.{statement}
 use Rattle.machine_cases.proofs.long.ticks.Tie as tie
