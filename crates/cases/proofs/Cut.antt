@@ -1,16 +1,18 @@
--- A slice that is longer than a buffer of one row more than the limit is number 1, whole and cut to the buffer. Assumes nothing.
+-- A slice that is longer than its buffer, of one row more than the limit or one number more than the length that it must have, is number 1,
+-- whole and cut to the buffer. Assumes nothing.
 use Prim.Native.Nat.{ℕ, _+_, _*_, _/_, _%_, _≤_, _<_}
-use mathlib.Core.Path.{_≡_, refl}
+use mathlib.Core.Path.{_≡_, refl, ap}
 use mathlib.Core.Bool.{true, not, or-true}
 use mathlib.Core.List.{List}
 use native.Mathlib.Nat.{le-div-iff-mul-le}
 use native.Mathlib.Omega.{arith}
 use lib.Dec.{eqb, ltb}
 use lib.ListN.{length, take, replicate, length-take}
-use borrow.Author.Tests.{lt-ltb}
+use lib.Seq.{length-take-le}
+use borrow.Author.Tests.{lt-ltb, ne-eqb}
 use Rattle.cells.specs.Limits.{maxModes}
 use Rattle.program.specs.Tables.{modeWidth}
-use Rattle.rules.specs.Shape.{badSlice}
+use Rattle.rules.specs.Shape.{badSlice, badLength}
 
 module _ {A : Type 0} (width limit : ℕ) (some : 1 ≤ width) where
   -- one row more than the limit is too many
@@ -25,6 +27,13 @@ module _ {A : Type 0} (width limit : ℕ) (some : 1 ≤ width) where
   pub cut-too-long : (cap : ℕ) (t : List A) → (limit + 1) * width ≤ cap → cap < length t
       → (badSlice width limit (take cap t) ≡ true) × (badSlice width limit t ≡ true)
   cut-too-long cap t h l = (too-long (take cap t) (simp length-take (omega arith)), too-long t (omega arith))
+
+-- a slice by port or by task that does not have just so many numbers is number 1, and so is what a buffer of one more, or larger, keeps of it
+pub cut-wrong-length : {A : Type 0} (n cap : ℕ) (t : List A) → n < cap → cap < length t → (badLength n (take cap t) ≡ true) × (badLength n t ≡ true)
+unfolding badLength
+cut-wrong-length n cap t h l =
+    let kept : length (take cap t) ≡ cap = length-take-le cap t (omega arith) in
+    (ap not (ne-eqb (length (take cap t)) n (λ e. omega arith)), ap not (ne-eqb (length t) n (λ e. omega arith)))
 
 -- an instance: of ten modes there is room for nine, and either way there are too many
 abbrev ten : List ℕ

@@ -112,9 +112,7 @@ fn schedule(tasks: &[i32], times: &[i32], t: usize, unused: usize, at: At) -> St
     if 0 < turn::left_of(&left, Task::of(t)) {
         return refused(17, at);
     }
-    if t < Program::TASKS {
-        left[t] = time;
-    }
+    left[t] = time;
     state.left = left;
     moved(at, state)
 }

@@ -1,10 +1,11 @@
 -- `instants::instructions::schedule` meets its contract: a task that is declared is named by its number and has a place. Assumes
 -- nothing.
-use mathlib.Core.Path.{_∙_}
-use mathlib.Core.Logic.{⊎-elim}
+use Prim.Native.Nat.{_<_}
+use mathlib.Core.Path.{refl, _∙_}
 use native.Mathlib.Omega.{arith}
 use borrow.Author.Needs.{needs}
 use Rattle.cells.specs.Cell.{rowsIn}
+use Rattle.cells.specs.Limits.{maxTasks}
 use Rattle.program.specs.Tables.{taskWidth}
 use Rattle.instants.proofs.Executed.{schedule-declared, schedule-faulty, schedule-late, schedule-running, schedule-released}
 use Rattle.instants.proofs.instructions.schedule.Statement.{statement}
@@ -58,28 +59,33 @@ returns-3 c T e readings count =
     _ _ (field .before .num .ensures) (field .field .ensures) (late .if2 .left) _ _ (rest .before .of .ensures) (rest .left-of .ensures)
     (c .before .if3 .taken)
 
+-- a task that is declared has a place
+placed : (c : tie.Else3) → c .before .before .before .before .before .before .before .before .before .before .args .t < maxTasks
+placed c =
+    let named = c .before .before .before .before .before .before .before .before .before in
+    let s = named .before in
+    omega (arith, s .pre .0, schedule-declared (rowsIn taskWidth (s .args .tasks .now)) (s .args .t) (s .args .unused) (named .if1 .left))
+
 mul-left : tie.Need-mul-left
-mul-left c = search needs
+mul-left c = let own = placed c in search needs
 
 array-write-left : tie.Need-array-write-left
-array-write-left c = search needs
+array-write-left c = let own = placed c in search needs
 
 moved-requires : tie.Need-moved-requires
 moved-requires c κs = search needs
 
 returns-4 : tie.Need-returns-4
 returns-4 c T e readings count =
-    let rest = c .before .before .before in
+    let rest = c .before .before in
     let late = rest .before .before .before .before .before in
     let field = late .before in
     let named = field .before .before in
     let s = named .before in
-    let declared = schedule-declared (rowsIn taskWidth (s .args .tasks .now)) (s .args .t) (s .args .unused) (named .if1 .left) in
     c .moved .ensures
     ∙ schedule-released T readings (s .args .times .now) count (s .args .at) (s .args .t) (s .args .unused) e (s .pre .0) (named .if1 .left)
     _ _ (field .before .num .ensures) (field .field .ensures) (late .if2 .left) _ _ (rest .before .of .ensures) (rest .left-of .ensures)
-    _ (c .before .before .if3 .left)
-    (⊎-elim (λ w. w .1) (λ w. absurd (omega (arith, w .0 .left, s .pre .0, declared))) (c .before .if4 .came))
+    _ (c .before .if3 .left) refl
 
 pub schedule-spec : {M : Type 1} → statement M
 schedule-spec =
