@@ -1,4 +1,4 @@
--- What an accepted advance changes, and how long its instant may be, of the definitions. Assumes nothing.
+-- When a run is refused, what an accepted advance changes, and how long its instant may be, of the definitions. Assumes nothing.
 use Prim.Native.Nat.{ℕ, _+_, _%_, _^_, _≤_}
 use mathlib.Core.Path.{_≡_, ap, subst, _∙_}
 use mathlib.Core.Logic.{_⊎_, inl, inr}
@@ -8,8 +8,12 @@ use Rattle.code.proofs.Fetch.{instructions-length}
 use Rattle.machine.specs.declared.State.{State}
 use Rattle.machine.specs.Instant.{startAt, Ends}
 use Rattle.machine.specs.Moves.{Instanted}
+use Rattle.machine.proofs.Stopped.{advance-stops}
 use Rattle.machine.proofs.Moved as moved
-use Rattle.demands.specs.Machine.{AdvanceMoves, TimeMoves, InstantCounted}
+use Rattle.demands.specs.Machine.{RunExact, AdvanceMoves, TimeMoves, InstantCounted}
+
+pub run-exact : RunExact
+run-exact L e n l = advance-stops L e n l
 
 pub advance-moves : AdvanceMoves
 advance-moves L e = moved.advance-moves L e

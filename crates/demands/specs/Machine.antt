@@ -1,16 +1,23 @@
--- Demand 1 for the machine, as statements: what an accepted advance changes, and how long its instant may be. (That a refusal hands
--- the state back is `RefusedKeeps` in Calls.antt; 16 to 20 stand in machine/specs as claims of what is executed.) Proved in
--- proofs/Machine.antt. Assumes nothing.
-use Prim.Native.Nat.{_+_, _/_, _%_, _^_}
+-- Demand 1 for the machine, as statements: when a run is refused, what an accepted advance changes, and how long its instant may be. (That a
+-- refusal hands the state back is `RefusedKeeps` in Calls.antt.) Proved in proofs/Machine.antt. Assumes nothing.
+use Prim.Native.Nat.{ℕ, _+_, _/_, _%_, _^_, _≤_}
 use mathlib.Core.Path.{_≡_}
+use mathlib.Core.Logic.{_⊎_, _↔_}
 use lib.ListN.{length}
 use Rattle.cells.specs.Limits.{wordsEach}
 use Rattle.program.specs.Program.{programOf}
 use Rattle.code.specs.Op.{instructions}
 use Rattle.machine.specs.declared.State.{State}
 use Rattle.machine.specs.Instant.{startAt, Ends}
-use Rattle.machine.specs.Advance.{Advance, advanceAnswer}
+use Rattle.machine.specs.Advance.{Advance, advanceVerdict, advanceAnswer}
+use Rattle.machine.specs.Stops.{InstantStops, TickStops}
 use Rattle.machine.specs.Moves.{Advances}
+
+-- 16 to 20: where 1 to 13 and 21 do not apply, an advance is refused with n exactly when an instruction of its instant is (19, 16, 17), all
+-- instructions were run (20, or 19 off the end), or two suppliers run in its tick (18)
+abbrev pub RunExact : Type 0
+RunExact =
+    (L : Advance) → advanceVerdict L ≡ 0 → (n : ℕ) → 1 ≤ n → (advanceAnswer L .number ≡ n) ↔ (InstantStops L n ⊎ TickStops L n)
 
 -- the state handed back differs from the one before only where document 01 says
 abbrev pub AdvanceMoves : Type 0

@@ -8,6 +8,7 @@ pub mod Stretch
 pub mod Fits
 pub mod Ready
 pub mod Refusals
+pub mod Stopped
 pub mod Completing
 pub mod Kept
 pub mod Moved

@@ -9,10 +9,12 @@ use native.Mathlib.Omega.{arith}
 use native.Mathlib.Decide.{decLt}
 use lib.Dec.{eqb}
 use lib.IntN.{ℤ, pos}
-use lib.ListN.{length, set, List·getD-eq-default}
+use lib.ListN.{length, getD, set, List·getD-eq-default}
 use lib.Seq.{getD-set-same, getD-set-other, set-out}
-use Rattle.theory.specs.Lists.{member, puts}
+use Rattle.theory.specs.Lists.{each, member, puts}
+use Rattle.theory.proofs.Lists.{each-at}
 use Rattle.theory.proofs.Puts.{puts-other}
+use Rattle.cells.specs.Limits.{suppliers}
 use Rattle.program.specs.Program.{Program, programOf, task}
 use Rattle.program.specs.Ports.{valueOf, takes}
 use Rattle.program.proofs.Ports.{takes-at}
@@ -21,7 +23,7 @@ use Rattle.code.specs.Op.{Op, instructions}
 use Rattle.machine.specs.declared.State.{State}
 use Rattle.machine.specs.declared.Advanced.{Advanced}
 use Rattle.machine.specs.Instant.{Outcome, ok, stop, startAt, Ends}
-use Rattle.machine.specs.Schedules.{Who, nobody, one, several, running, outputsAfter, afterTick, ticked, tickAll}
+use Rattle.machine.specs.Schedules.{Who, nobody, one, several, movedOf, running, outputsAfter, afterTick, ticked, tickAll}
 use Rattle.machine.specs.Advance.{Advance, advanceVerdict, ready, step, answer, advanceAnswer}
 use Rattle.machine.specs.Moves.{Works, Passes, Instanted, Advances}
 use Rattle.machine.proofs.Outcomes.{ok-not-stop, finished}
@@ -55,6 +57,10 @@ module _ (P : Program) (results : List ℤ) (s : State) (t : ℕ) where
   outputs-stay p (inl n) = outputs-miss p n
   outputs-stay p (inr d) = ap (λ (v : List ℤ). valueOf v p) (outputs-same P results s t d)
 
+-- the rows that a supplier has passed stay passed
+positions-rise : (S : List ℤ) (s : State) (j : ℕ) → j < suppliers → getD (s .positions) j 0 ≤ getD (each (movedOf S s) suppliers 0) j 0
+positions-rise S s j l = let e = each-at (movedOf S s) suppliers j 0 l in omega (arith, e)
+
 -- a tick that is not refused
 tick-passes : (P : Program) (S results : List ℤ) (s u : State) → tickAll P S results s ≡ ok u → Passes P S results s u
 tick-passes P S results s u = go (running S s) refl
@@ -70,6 +76,7 @@ tick-passes P S results s u = go (running S s) refl
           current = refl;
           elapsed = refl;
           remaining = refl;
+          positions = positions-rise S s;
           works = subst (λ (w : Who). Works P results w s v) (sym e) (refl, refl);
         })
     go (one t) e q =
@@ -82,6 +89,7 @@ tick-passes P S results s u = go (running S s) refl
           current = refl;
           elapsed = refl;
           remaining = refl;
+          positions = positions-rise S s;
           works = subst (λ (w : Who). Works P results w s v) (sym e) (record {
             nearer = less-at (s .left) t;
             others = λ j d. getD-set-other (s .left) t j (leftOf (s .left) t - 1) 0 d;

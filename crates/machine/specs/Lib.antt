@@ -5,5 +5,6 @@ pub mod Instruction
 pub mod Instant
 pub mod Schedules
 pub mod Advance
+pub mod Stops
 pub mod Moves
 pub mod Straight

@@ -71,6 +71,8 @@ pub record Passes (P : Program) (S results : List ℤ) (s u : State) : Type 0 wh
   pub current : u .current ≡ s .current
   pub elapsed : u .elapsed ≡ s .elapsed + 1
   pub remaining : u .remaining ≡ s .remaining - 1
+  -- no supplier goes back in its block
+  pub positions : (j : ℕ) → j < suppliers → getD (s .positions) j 0 ≤ getD (u .positions) j 0
   pub works : Works P results (running S s) s u
 
 -- an accepted advance hands back u: a tick of the unit remained, or an instant begins the next one; then a tick of the schedules

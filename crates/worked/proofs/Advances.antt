@@ -1,9 +1,11 @@
--- F's first advance meets the premises of what is said of accepted advances and of straight-line code. Assumes nothing.
+-- F's first advance meets the premises of what is said of advances, accepted and refused, and of straight-line code. Assumes nothing.
 use Prim.Native.Nat.{_+_, _/_, _%_, _^_}
 use mathlib.Core.Path.{_≡_, refl}
 use mathlib.Core.Bool.{false}
+use mathlib.Core.Logic.{_⊎_}
+use native.Mathlib.Omega.{arith}
 use mathlib.Core.List.{List, [], _∷_, map}
-use lib.ListN.{length, take, drop}
+use lib.ListN.{length, take, drop, replicate}
 use Rattle.cells.specs.Limits.{wordsEach}
 use Rattle.program.specs.Program.{programOf}
 use Rattle.code.specs.Op.{instructions}
@@ -11,13 +13,15 @@ use Rattle.code.specs.Compile.{listingOf}
 use Rattle.code.proofs.At as place
 use Rattle.machine.specs.declared.State.{State}
 use Rattle.machine.specs.Instant.{startAt, Goes, Ends}
-use Rattle.machine.specs.Advance.{Advance, freshAnswer, advanceAnswer}
+use Rattle.machine.specs.Change.{withLeft}
+use Rattle.machine.specs.Advance.{Advance, freshAnswer, advanceVerdict, advanceAnswer}
+use Rattle.machine.specs.Stops.{InstantStops, TickStops}
 use Rattle.machine.specs.Moves.{Advances}
 use Rattle.machine.specs.Straight.{Straight, calls, opOf, effects, AllPassing}
 use Rattle.machine.proofs.Stretch.{straight}
 use Rattle.demands.specs.Composed.{joined, code}
 use Rattle.demands.specs.Supplied.{lentTo}
-use Rattle.demands.proofs.Machine.{advance-moves, time-moves, instant-counted}
+use Rattle.demands.proofs.Machine.{run-exact, advance-moves, time-moves, instant-counted}
 use Rattle.worked.specs.Computed.{computed}
 use Rattle.worked.specs.Programs.{F}
 use Rattle.worked.specs.Systems.{F-system, mix, readings, times}
@@ -42,6 +46,27 @@ accepted = refl
 fresh-ends : begun .remaining ≡ 0
 unfolding computed
 fresh-ends = refl
+
+-- the same with a tick of task 0 left: its output copy, the instant's second instruction, is refused with 17
+abbrev late : Advance
+late = record {
+  tables = first .tables;
+  code = first .code;
+  schedule = first .schedule;
+  state = withLeft begun (1 ∷ replicate 31 0);
+  lent = first .lent;
+}
+
+late-runs : advanceVerdict late ≡ 0
+unfolding computed
+late-runs = refl
+
+late-refused : advanceAnswer late .number ≡ 17
+unfolding computed
+late-refused = refl
+
+pub F-late : InstantStops late 17 ⊎ TickStops late 17
+F-late = run-exact late late-runs 17 (omega arith) .0 late-refused
 
 pub F-advances : Advances first (advanceAnswer first .state)
 F-advances = advance-moves first accepted
