@@ -10,7 +10,7 @@ use lib.Dec.{eqb, ltb}
 use lib.ListN.{length, take, replicate, length-take}
 use lib.Seq.{length-take-le}
 use borrow.Author.Tests.{lt-ltb, ne-eqb}
-use Rattle.cells.specs.Limits.{maxModes}
+use Rattle.cells.specs.Limits.{maxModes, maxPorts}
 use Rattle.program.specs.Tables.{modeWidth}
 use Rattle.rules.specs.Shape.{badSlice, badLength}
 
@@ -41,3 +41,10 @@ ten = replicate (maxModes + 2) 0
 
 ten-modes : (badSlice modeWidth maxModes (take (maxModes + 1) ten) ≡ true) × (badSlice modeWidth maxModes ten ≡ true)
 ten-modes = cut-too-long modeWidth maxModes (omega arith) (maxModes + 1) ten (omega arith) (let many : length ten ≡ maxModes + 2 = refl in omega arith)
+
+-- and of 66 readings there is room for 65, and either way they are not 64
+abbrev many-readings : List ℕ
+many-readings = replicate (maxPorts + 2) 0
+
+wrong-readings : (badLength maxPorts (take (maxPorts + 1) many-readings) ≡ true) × (badLength maxPorts many-readings ≡ true)
+wrong-readings = cut-wrong-length maxPorts (maxPorts + 1) many-readings (omega arith) (let many : length many-readings ≡ maxPorts + 2 = refl in omega arith)

@@ -23,6 +23,7 @@ fn values(r: Reader, buffer: &mut [u8], out: &mut [i32]) -> Reader {
     reader
 }
 
+// Port values, then local outputs.
 fn both(r: Reader, buffer: &mut [u8], ports: &mut [i32], outputs: &mut [i32]) -> Reader {
     let with_ports = values(r, buffer, ports);
     values(with_ports, buffer, outputs)

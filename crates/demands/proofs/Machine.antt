@@ -2,12 +2,11 @@
 use Prim.Native.Nat.{ℕ, _+_, _%_, _^_, _≤_}
 use mathlib.Core.Path.{_≡_, ap, subst, _∙_}
 use mathlib.Core.Logic.{_⊎_, inl, inr}
-use Rattle.program.specs.Program.{programOf}
-use Rattle.code.specs.Op.{instructions}
 use Rattle.code.proofs.Fetch.{instructions-length}
 use Rattle.machine.specs.declared.State.{State}
-use Rattle.machine.specs.Instant.{startAt, Ends}
-use Rattle.machine.specs.Moves.{Instanted}
+use Rattle.machine.specs.Instant.{Ends}
+use Rattle.machine.specs.Stops.{program, code, begin}
+use Rattle.machine.specs.Moves.{InstantKeeps}
 use Rattle.machine.proofs.Stopped.{advance-stops}
 use Rattle.machine.proofs.Moved as moved
 use Rattle.demands.specs.Machine.{RunExact, AdvanceMoves, TimeMoves, InstantCounted}
@@ -24,14 +23,12 @@ time-moves L e =
     a .passes .time ∙ ap (λ (t : ℕ). (t + 1) % 2 ^ 32) (before (a .between) (a .begun))
   where
     before : (v : State) → ((1 ≤ L .state .remaining) × (v ≡ L .state))
-        ⊎ ((L .state .remaining ≡ 0) × Instanted (programOf (L .tables)) (L .lent .times) (instructions (L .code)) (L .state) v)
+        ⊎ ((L .state .remaining ≡ 0) × InstantKeeps (program L) (L .lent .times) (code L) (L .state) v)
         → v .time ≡ L .state .time
     before v (inl x) = ap (λ (s : State). s .time) (x .1)
     before v (inr x) = x .1 .time
 
 pub instant-counted : InstantCounted
 instant-counted L e z =
-    let P = programOf (L .tables) in
-    let code = instructions (L .code) in
-    subst (λ (n : ℕ). (u : State) × Ends P (L .lent .readings) (L .lent .times) code n (startAt P (L .lent .readings) (L .lent .times) code (L .state)) u)
-    (instructions-length (L .code)) (moved.instant-counted L e z)
+    subst (λ (n : ℕ). (u : State) × Ends (program L) (L .lent .readings) (L .lent .times) (code L) n (begin L) u) (instructions-length (L .code))
+    (moved.instant-counted L e z)

@@ -5,12 +5,10 @@ use mathlib.Core.Path.{_≡_}
 use mathlib.Core.Logic.{_⊎_, _↔_}
 use lib.ListN.{length}
 use Rattle.cells.specs.Limits.{wordsEach}
-use Rattle.program.specs.Program.{programOf}
-use Rattle.code.specs.Op.{instructions}
 use Rattle.machine.specs.declared.State.{State}
-use Rattle.machine.specs.Instant.{startAt, Ends}
+use Rattle.machine.specs.Instant.{Ends}
 use Rattle.machine.specs.Advance.{Advance, advanceVerdict, advanceAnswer}
-use Rattle.machine.specs.Stops.{InstantStops, TickStops}
+use Rattle.machine.specs.Stops.{program, code, begin, InstantStops, TickStops}
 use Rattle.machine.specs.Moves.{Advances}
 
 -- 16 to 20: where 1 to 13 and 21 do not apply, an advance is refused with n exactly when an instruction of its instant is (19, 16, 17), all
@@ -32,6 +30,4 @@ TimeMoves = (L : Advance) → advanceAnswer L .number ≡ 0 → advanceAnswer L 
 abbrev pub InstantCounted : Type 0
 InstantCounted =
     (L : Advance) → advanceAnswer L .number ≡ 0 → L .state .remaining ≡ 0
-    → (u : State)
-    × Ends (programOf (L .tables)) (L .lent .readings) (L .lent .times) (instructions (L .code)) (length (L .code) / wordsEach)
-    (startAt (programOf (L .tables)) (L .lent .readings) (L .lent .times) (instructions (L .code)) (L .state)) u
+    → (u : State) × Ends (program L) (L .lent .readings) (L .lent .times) (code L) (length (L .code) / wordsEach) (begin L) u

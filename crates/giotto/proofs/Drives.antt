@@ -3,7 +3,7 @@
 use Prim.Native.Nat.{ℕ, _<_}
 use mathlib.Core.Path.{_≡_, refl, ap, sym, subst, _∙_}
 use mathlib.Core.Bool.{Bool, true, false}
-use mathlib.Core.List.{List, [], map}
+use mathlib.Core.List.{List, []}
 use mathlib.Core.Logic.{_↔_}
 use native.Mathlib.Omega.{arith}
 use lib.IntN.{ℤ}
@@ -16,7 +16,7 @@ use Rattle.program.specs.Tables.{Tables, driverCount, copySource}
 use Rattle.program.specs.Guard.{guardOf, holds}
 use Rattle.program.specs.Sets.{Destination}
 use Rattle.program.specs.Program.{Copy, driverRow, programOf, driver}
-use Rattle.program.specs.Ports.{valueOf, moves}
+use Rattle.program.specs.Ports.{valueOf, copyPuts, moves}
 use Rattle.program.proofs.Decoded.{driver-row, has-copies}
 use Rattle.rules.specs.Shape.{Shaped}
 use Rattle.rules.specs.Fields.{Fields}
@@ -28,7 +28,7 @@ use Rattle.giotto.proofs.Steps.{same-row}
 module _ (T : Tables) where
   -- a driver that moves writes what it drives
   wrote-copies : (v : List ℤ) (d p : ℕ) (x : ℤ)
-      → Wrote (map (λ c. record { place = c .destination; value = valueOf v (c .source) }) (driverRow T d .copies)) p x ↔ Drives T d (valueOf v) p x
+      → Wrote (copyPuts v (driverRow T d)) p x ↔ Drives T d (valueOf v) p x
   wrote-copies v d p x =
       let s = has-map (λ (a : Put). (a .place ≡ p) × (x ≡ a .value)) (λ c. record { place = c .destination; value = valueOf v (c .source) }) (driverRow T d .copies) in
       let r = has-copies T (λ (c : Copy). (c .destination ≡ p) × (x ≡ valueOf v (c .source))) d in (
@@ -42,7 +42,7 @@ module _ (T : Tables) where
   wrote-moves v d p x = go (holds (guardOf T d) (valueOf v)) refl
     where
       go : (b : Bool) → holds (guardOf T d) (valueOf v) ≡ b
-          → Wrote (elim b [ true ↦ map (λ c. record { place = c .destination; value = valueOf v (c .source) }) (driverRow T d .copies) | false ↦ [] ]) p x
+          → Wrote (elim b [ true ↦ copyPuts v (driverRow T d) | false ↦ [] ]) p x
           ↔ ((holds (guardOf T d) (valueOf v) ≡ true) × Drives T d (valueOf v) p x)
       go true e = let r = wrote-copies v d p x in (λ h. (e, r .0 h), λ w. r .1 (w .1))
       go false e = (λ h. absurd h, λ w. clash (w .0) e)

@@ -10,26 +10,26 @@ use lib.IntN.{ℤ}
 use lib.ListN.{length}
 use Rattle.theory.specs.Lists.{member}
 use Rattle.theory.proofs.Bools.{iff, is-true}
-use Rattle.theory.proofs.Lists.{each-length}
 use Rattle.theory.proofs.Members.{has-those, member-says}
 use Rattle.cells.specs.Cell.{nameOf, rowsIn}
 use Rattle.cells.specs.Limits.{maxPorts}
 use Rattle.cells.proofs.Names.{name-small, name-below}
-use Rattle.program.specs.Tables.{Tables, portCount, sensor, taskWidth, taskCount, driverWidth, driverCount}
+use Rattle.program.specs.Tables.{Tables, portCount, sensor, taskWidth, driverWidth}
 use Rattle.program.specs.Sets.{isKind}
-use Rattle.program.specs.Program.{programOf, taskRow, driverRow}
+use Rattle.program.specs.Program.{programOf}
 use Rattle.program.proofs.Sets.{kind-says}
+use Rattle.program.proofs.Decoded.{task-count, driver-count}
 
 module _ (T : Tables) where
   -- a task's number is past the end of the table, or before it
   pub task-past : {tasks : List ℤ} (t : ℕ) → T .tasks ≡ tasks → leb (length (programOf T .tasks)) t ≡ leb (rowsIn taskWidth tasks) t
   task-past t e =
-      ap (λ (n : ℕ). leb n t) (each-length (taskRow T) (taskCount T) 0) ∙ ap (λ (l : List ℤ). leb (rowsIn taskWidth l) t) e
+      ap (λ (n : ℕ). leb n t) (task-count T) ∙ ap (λ (l : List ℤ). leb (rowsIn taskWidth l) t) e
 
   -- so is a driver's
   pub driver-past : {drivers : List ℤ} (d : ℕ) → T .drivers ≡ drivers → leb (length (programOf T .drivers)) d ≡ leb (rowsIn driverWidth drivers) d
   driver-past d e =
-      ap (λ (n : ℕ). leb n d) (each-length (driverRow T) (driverCount T) 0) ∙ ap (λ (l : List ℤ). leb (rowsIn driverWidth l) d) e
+      ap (λ (n : ℕ). leb n d) (driver-count T) ∙ ap (λ (l : List ℤ). leb (rowsIn driverWidth l) d) e
 
   module _ (few : portCount T ≤ maxPorts) (p : ℕ) where
     -- the name of a sensor is its number

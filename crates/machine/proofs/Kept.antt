@@ -3,7 +3,7 @@
 use Prim.Native.Nat.{ℕ, zero, suc, _<_}
 use mathlib.Core.Path.{_≡_, refl, sym, subst, _∙_}
 use mathlib.Core.Bool.{Bool, true, false, _||_, not}
-use mathlib.Core.List.{List, [], map}
+use mathlib.Core.List.{List}
 use mathlib.Core.Logic.{inl, inr}
 use native.Mathlib.Omega.{arith}
 use native.Mathlib.Decide.{ℕ-discrete, decLt}
@@ -13,16 +13,14 @@ use lib.ListN.{length, getD, set, List·getD-eq-default}
 use lib.Seq.{getD-set-same, getD-set-other, set-out}
 use borrow.Author.Tests.{leb-false}
 use Rattle.theory.specs.Lists.{member}
-use Rattle.theory.proofs.Bools.{clash, neither, is-true, bars-not, says-itself}
-use Rattle.theory.proofs.Members.{has-as, has-map, member-says}
-use Rattle.theory.proofs.Puts.{Wrote, puts-other}
+use Rattle.theory.proofs.Bools.{clash, neither, bars-not, says-itself}
+use Rattle.theory.proofs.Puts.{puts-other}
 use Rattle.theory.proofs.Verdict.{Clear, verdict-clear}
 use Rattle.cells.specs.Cell.{numAt}
 use Rattle.cells.specs.Limits.{maxDelay}
-use Rattle.program.specs.Guard.{holds}
-use Rattle.program.specs.Program.{Program, Driver, task, driver}
+use Rattle.program.specs.Program.{Program, task, driver}
 use Rattle.program.specs.Ports.{valueOf, takes, moves}
-use Rattle.program.proofs.Ports.{wrote-takes}
+use Rattle.program.proofs.Ports.{takes-miss, moves-miss}
 use Rattle.rules.specs.Fields.{inRange, InRange}
 use Rattle.rules.proofs.Fields.{range-says}
 use Rattle.runs.specs.Tick.{leftOf}
@@ -31,9 +29,8 @@ use Rattle.machine.specs.declared.State.{State}
 use Rattle.machine.specs.declared.At.{At}
 use Rattle.machine.specs.Change.{withPorts, withLeft}
 use Rattle.machine.specs.Instruction.{Call, driverCall, outputCall, sensorCall, callOf, isFaulty, namesNothing, timeBad, stillRunning, instructionRefusals, called, executes}
-use Rattle.machine.specs.Instant.{ok, isReturn, fetch, refusalAt, startAt, runInstant, Goes}
-use Rattle.machine.specs.Moves.{Untouched, Released, Begins, Instanted}
-use Rattle.machine.proofs.Instants.{instant-ends}
+use Rattle.machine.specs.Instant.{isReturn, fetch, refusalAt, startAt, Goes, Ends}
+use Rattle.machine.specs.Moves.{Untouched, Released, Begins, InstantKeeps}
 
 -- a number that is not in a list, where another is
 apart : (p q : ℕ) (xs : List ℕ) → member q xs ≡ true → member p xs ≡ false → p ≡ q → ⊥
@@ -42,25 +39,6 @@ apart p q xs m n e = clash (subst (λ (x : ℕ). member x xs ≡ true) (sym e) m
 -- `future` is no faulty instruction
 not-future : {d to : ℕ} → faulty ≡ future d to → ⊥
 not-future e = let z : _≡_ {A = ℕ} 0 1 = cc in omega arith
-
--- a driver writes only its destinations
-moves-miss : (D : Driver) (v : List ℤ) (p : ℕ) → member p (map (λ c. c .destination) (D .copies)) ≡ false → (x : ℤ) → Wrote (moves v D) p x → ⊥
-moves-miss D v p n x = go (holds (D .guard) (valueOf v))
-  where
-    go : (b : Bool)
-        → Wrote (elim b [ true ↦ map (λ c. record { place = c .destination; value = valueOf v (c .source) }) (D .copies) | false ↦ [] ]) p x
-        → ⊥
-    go true w =
-        clash
-        (is-true (member-says p (map (λ c. c .destination) (D .copies)))
-        (has-map (λ y. p ≡ y) (λ c. c .destination) (D .copies) .1
-        (has-as _ _ (D .copies) (λ c e. sym (e .0)) (has-map (λ a. (a .place ≡ p) × (x ≡ a .value)) _ (D .copies) .0 w)))) n
-    go false w = w
-
--- a task's outputs are all that are written of it
-pub takes-miss : (value : ℕ → ℤ) (ps : List ℕ) (p : ℕ) → member p ps ≡ false → (x : ℤ) → Wrote (takes value ps) p x → ⊥
-takes-miss value ps p n x w =
-    clash (is-true (member-says p ps) (has-as _ _ ps (λ q e. sym (e .0)) (wrote-takes value ps p x .0 w))) n
 
 module _ (P : Program) (readings times : List ℤ) (code : List Op) (s : State) where
   -- once a `future` was executed a unit begins
@@ -173,6 +151,7 @@ module _ (P : Program) (readings times : List ℤ) (code : List Op) (s : State) 
   step-kept a return e f t r n k = clash {b = true} refl n
   step-kept a faulty e f t r n k = clash {b = true} refl f
 
+  -- an instruction that is not refused: no test of it applies
   clear : (a : At) → refusalAt P readings times code a ≡ 0 → Clear (instructionRefusals P readings times (length code) (fetch P readings times code a)) a
   clear a e = verdict-clear (instructionRefusals P readings times (length code) (fetch P readings times code a)) a (omega arith) e
 
@@ -184,6 +163,7 @@ module _ (P : Program) (readings times : List ℤ) (code : List Op) (s : State) 
       goes-kept n (executes P readings times (fetch P readings times code a) a) b (g .2)
       (step-kept a (fetch P readings times code a) refl (c .0) (c .1 .0) (c .1 .1 .0) (g .1) k)
 
+  -- nothing has happened yet
   start-kept : Kept (startAt P readings times code s)
   start-kept = record { time = refl; outputs = refl; ports = λ p w. refl; left = λ t. inl refl; plan = tt }
 
@@ -198,10 +178,9 @@ module _ (P : Program) (readings times : List ℤ) (code : List Op) (s : State) 
   returned a faulty r f = clash {b = false} r refl
 
   -- an instant that ends leaves all else as it was, and begins a unit
-  pub instant-keeps : (u : State) → runInstant P readings times code s ≡ ok u → Instanted P times code s u
-  instant-keeps u e =
-      let w = instant-ends P readings times code s u .0 e in
+  pub instant-keeps : (u : State) → Ends P readings times code (length code) (startAt P readings times code s) u → InstantKeeps P times code s u
+  instant-keeps u w =
       let k = goes-kept (w .before) (startAt P readings times code s) (w .last) (w .goes) start-kept in
       let p = returned (w .last) (fetch P readings times code (w .last)) (w .returns) (clear (w .last) (w .not-refused) .0) in
-      subst (Instanted P times code s) (w .leaves)
+      subst (InstantKeeps P times code s) (w .leaves)
       (record { time = k .time; outputs = k .outputs; ports = k .ports; left = k .left; begins = subst (λ (b : Bool). Planned b (w .last .state)) p (k .plan) })

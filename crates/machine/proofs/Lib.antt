@@ -7,6 +7,7 @@ pub mod Instants
 pub mod Stretch
 pub mod Fits
 pub mod Ready
+pub mod Answered
 pub mod Refusals
 pub mod Stopped
 pub mod Completing

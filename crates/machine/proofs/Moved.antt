@@ -1,6 +1,6 @@
 -- An accepted advance changes only what specs/Moves.antt says: a tick of the schedules, and the whole step.
 -- Assumes nothing.
-use Prim.Native.Nat.{ℕ, zero, suc, _-_, _≤_, _<_}
+use Prim.Native.Nat.{ℕ, _-_, _≤_, _<_}
 use mathlib.Core.Path.{_≡_, refl, sym, ap, subst, _∙_}
 use mathlib.Core.Bool.{Bool, true, false}
 use mathlib.Core.List.{List}
@@ -15,23 +15,23 @@ use Rattle.theory.specs.Lists.{each, member, puts}
 use Rattle.theory.proofs.Lists.{each-at}
 use Rattle.theory.proofs.Puts.{puts-other}
 use Rattle.cells.specs.Limits.{suppliers}
-use Rattle.program.specs.Program.{Program, programOf, task}
+use Rattle.program.specs.Program.{Program, task}
 use Rattle.program.specs.Ports.{valueOf, takes}
-use Rattle.program.proofs.Ports.{takes-at}
+use Rattle.program.proofs.Ports.{takes-at, takes-miss}
 use Rattle.runs.specs.Tick.{leftOf, run, after}
-use Rattle.code.specs.Op.{Op, instructions}
 use Rattle.machine.specs.declared.State.{State}
 use Rattle.machine.specs.declared.Advanced.{Advanced}
-use Rattle.machine.specs.Instant.{Outcome, ok, stop, startAt, Ends}
+use Rattle.machine.specs.Instant.{Outcome, ok, stop, Ends}
 use Rattle.machine.specs.Schedules.{Who, nobody, one, several, movedOf, running, outputsAfter, afterTick, ticked, tickAll}
-use Rattle.machine.specs.Advance.{Advance, advanceVerdict, ready, step, answer, advanceAnswer}
-use Rattle.machine.specs.Moves.{Works, Passes, Instanted, Advances}
+use Rattle.machine.specs.Advance.{Advance, advanceVerdict, answer, advanceAnswer}
+use Rattle.machine.specs.Stops.{program, code, begin, BeforeTick}
+use Rattle.machine.specs.Moves.{Works, Passes, InstantKeeps, Advances}
 use Rattle.machine.proofs.Outcomes.{ok-not-stop, finished}
 use Rattle.machine.proofs.Completing.{outputs-done, outputs-same}
-use Rattle.machine.proofs.Instants.{instant-ends}
-use Rattle.machine.proofs.Ready.{ready-waits, ready-runs}
+use Rattle.machine.proofs.Ready.{ready-leaves, step-leaves}
+use Rattle.machine.proofs.Answered.{outcome, advance-refused, advance-steps}
 use Rattle.machine.proofs.Refusals.{step-number}
-use Rattle.machine.proofs.Kept.{takes-miss, instant-keeps}
+use Rattle.machine.proofs.Kept.{instant-keeps}
 
 -- the remaining times after a tick of task t
 less-at : (left : List ℕ) (t : ℕ) → leftOf (set left t (leftOf left t - 1)) t ≡ leftOf left t - 1
@@ -99,65 +99,46 @@ tick-passes P S results s u = go (running S s) refl
         })
     go several e q = absurd (ok-not-stop (sym q))
 
--- the E part of an advance that is not refused
-ready-begun : (P : Program) (code : List Op) (readings times : List ℤ) (s v : State) → ready P code readings times s ≡ ok v
-    → ((1 ≤ s .remaining) × (v ≡ s)) ⊎ ((s .remaining ≡ 0) × Instanted P times code s v)
-ready-begun P code readings times s v e = go (decLt 0 (s .remaining))
-  where
-    go : Dec (0 < s .remaining) → ((1 ≤ s .remaining) × (v ≡ s)) ⊎ ((s .remaining ≡ 0) × Instanted P times code s v)
-    go (yes l) = inl (omega arith, finished (sym e ∙ ready-waits P code readings times s l))
-    go (no l) =
-        let z : s .remaining ≡ 0 = omega (arith, l) in
-        inr (z, instant-keeps P readings times code s v (sym (ready-runs P code readings times s z) ∙ e))
-
 module _ (L : Advance) where
-  abbrev P : Program
-  P = programOf (L .tables)
-
-  abbrev code : List Op
-  code = instructions (L .code)
-
-  -- the step of an advance that is not refused
-  step-advances : (u : State) → step P code (L .schedule) (L .lent) (L .state) ≡ ok u → Advances L u
-  step-advances u = go (ready P code (L .lent .readings) (L .lent .times) (L .state)) refl
-    where
-      go : (o : Outcome) → ready P code (L .lent .readings) (L .lent .times) (L .state) ≡ o
-          → _≡_ {A = Outcome} (elim o [ ok v ↦ tickAll P (L .schedule) (L .lent .results) v | stop n ↦ stop n ]) (ok u)
-          → Advances L u
-      go (ok v) e q = record {
-        between = v;
-        begun = ready-begun P code (L .lent .readings) (L .lent .times) (L .state) v e;
-        passes = tick-passes P (L .schedule) (L .lent .results) v u q;
-      }
-      go (stop n) e q = absurd (ok-not-stop (sym q))
-
   -- an advance answers 0 only with what its step leaves
-  stepped : advanceAnswer L .number ≡ 0 → step P code (L .schedule) (L .lent) (L .state) ≡ ok (advanceAnswer L .state)
-  unfolding advanceAnswer
-  stepped = go (advanceVerdict L)
+  accepted : advanceAnswer L .number ≡ 0 → outcome L ≡ ok (advanceAnswer L .state)
+  accepted z = go (decLt 0 (advanceVerdict L))
     where
-      after : ℕ → Advanced
-      after n = elim n [ zero ↦ answer (L .state) (step P code (L .schedule) (L .lent) (L .state)) | suc m ↦ record { number = suc m; state = L .state } ]
+      end : (o : Outcome) → outcome L ≡ o → answer (L .state) o .number ≡ 0 → o ≡ ok (answer (L .state) o .state)
+      end (ok u) e q = refl
+      end (stop n) e q = absurd (omega (arith, q, step-number (program L) (code L) (L .schedule) (L .lent) (L .state) n e))
 
-      end : (o : Outcome) → step P code (L .schedule) (L .lent) (L .state) ≡ o → answer (L .state) o .number ≡ 0 → o ≡ ok (answer (L .state) o .state)
-      end (ok u) e z = refl
-      end (stop n) e z = absurd (omega (arith, z, step-number P code (L .schedule) (L .lent) (L .state) n e))
+      go : Dec (0 < advanceVerdict L) → outcome L ≡ ok (advanceAnswer L .state)
+      go (yes l) = absurd (omega (arith, z, l, ap (λ (a : Advanced). a .number) (advance-refused L (advanceVerdict L) refl l)))
+      go (no l) =
+          let v : advanceVerdict L ≡ 0 = omega (arith, l) in
+          let e = advance-steps L v in
+          end (outcome L) refl (ap (λ (a : Advanced). a .number) e ∙ z) ∙ ap (λ (a : Advanced). ok (a .state)) e
 
-      go : (n : ℕ) → after n .number ≡ 0 → step P code (L .schedule) (L .lent) (L .state) ≡ ok (after n .state)
-      go zero z = end (step P code (L .schedule) (L .lent) (L .state)) refl z
-      go (suc n) z = absurd (omega (arith, z))
+  -- the state before its tick
+  before : advanceAnswer L .number ≡ 0
+      → (v : State) × BeforeTick L v × Passes (program L) (L .schedule) (L .lent .results) v (advanceAnswer L .state)
+  before z =
+      let w = step-leaves (program L) (code L) (L .schedule) (L .lent) (L .state) (advanceAnswer L .state) (accepted z) in (
+        w .0,
+        ready-leaves (program L) (code L) (L .lent .readings) (L .lent .times) (L .state) (w .0) .0 (w .1),
+        tick-passes (program L) (L .schedule) (L .lent .results) (w .0) (advanceAnswer L .state) (w .2),
+      )
 
   -- so an accepted advance changes only what the claims say
   pub advance-moves : advanceAnswer L .number ≡ 0 → Advances L (advanceAnswer L .state)
-  advance-moves z = step-advances (advanceAnswer L .state) (stepped z)
+  advance-moves z = let (v, b, p) = before z in record { between = v; begun = begun v b; passes = p }
+    where
+      begun : (v : State) → BeforeTick L v
+          → ((1 ≤ L .state .remaining) × (v ≡ L .state)) ⊎ ((L .state .remaining ≡ 0) × InstantKeeps (program L) (L .lent .times) (code L) (L .state) v)
+      begun v (inl w) = inl w
+      begun v (inr w) = inr (w .0, instant-keeps (program L) (L .lent .readings) (L .lent .times) (code L) (L .state) v (w .1))
 
   -- and an instant of it came to its end within as many instructions as the code has
   pub instant-counted : advanceAnswer L .number ≡ 0 → L .state .remaining ≡ 0
-      → (u : State) × Ends P (L .lent .readings) (L .lent .times) code (length code) (startAt P (L .lent .readings) (L .lent .times) code (L .state)) u
-  instant-counted z r = go (ready P code (L .lent .readings) (L .lent .times) (L .state)) refl (stepped z)
+      → (u : State) × Ends (program L) (L .lent .readings) (L .lent .times) (code L) (length (code L)) (begin L) u
+  instant-counted z r = let (v, b, p) = before z in (v, ends v b)
     where
-      go : {u : State} (o : Outcome) → ready P code (L .lent .readings) (L .lent .times) (L .state) ≡ o
-          → _≡_ {A = Outcome} (elim o [ ok v ↦ tickAll P (L .schedule) (L .lent .results) v | stop n ↦ stop n ]) (ok u)
-          → (v : State) × Ends P (L .lent .readings) (L .lent .times) code (length code) (startAt P (L .lent .readings) (L .lent .times) code (L .state)) v
-      go (ok v) e q = (v, instant-ends P (L .lent .readings) (L .lent .times) code (L .state) v .0 (sym (ready-runs P code (L .lent .readings) (L .lent .times) (L .state) r) ∙ e))
-      go (stop n) e q = absurd (ok-not-stop (sym q))
+      ends : (v : State) → BeforeTick L v → Ends (program L) (L .lent .readings) (L .lent .times) (code L) (length (code L)) (begin L) v
+      ends v (inl w) = absurd (omega (arith, w .0, r))
+      ends v (inr w) = w .1

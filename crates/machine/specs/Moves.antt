@@ -1,4 +1,4 @@
--- What an accepted advance may change, as claims about the states before and after: "differs only where 01 says".
+-- What an accepted advance may change, and nothing else, as claims about the states before and after.
 -- Assumes nothing.
 use Prim.Native.Nat.{ℕ, _+_, _-_, _%_, _^_, _≤_, _<_}
 use mathlib.Core.Path.{_≡_}
@@ -40,7 +40,7 @@ pub record Begins (code : List Op) (u : State) : Type 0 where
   pub positions : u .positions ≡ replicate suppliers 0
 
 -- an instant of E code leads from s to u
-pub record Instanted (P : Program) (times : List ℤ) (code : List Op) (s u : State) : Type 0 where
+pub record InstantKeeps (P : Program) (times : List ℤ) (code : List Op) (s u : State) : Type 0 where
   pub time : u .time ≡ s .time
   pub outputs : u .outputs ≡ s .outputs
   pub ports : (p : ℕ) → Untouched P p → valueOf (u .ports) p ≡ valueOf (s .ports) p
@@ -79,5 +79,5 @@ pub record Passes (P : Program) (S results : List ℤ) (s u : State) : Type 0 wh
 pub record Advances (L : Advance) (u : State) : Type 0 where
   pub between : State
   pub begun : ((1 ≤ L .state .remaining) × (between ≡ L .state))
-      ⊎ ((L .state .remaining ≡ 0) × Instanted (programOf (L .tables)) (L .lent .times) (instructions (L .code)) (L .state) between)
+      ⊎ ((L .state .remaining ≡ 0) × InstantKeeps (programOf (L .tables)) (L .lent .times) (instructions (L .code)) (L .state) between)
   pub passes : Passes (programOf (L .tables)) (L .schedule) (L .lent .results) between u

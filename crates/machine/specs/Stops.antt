@@ -14,28 +14,29 @@ use Rattle.machine.specs.Schedules.{Collision}
 use Rattle.machine.specs.Advance.{Advance}
 
 module _ (L : Advance) where
-  abbrev pub runs : Program
-  runs = programOf (L .tables)
+  -- the program and the code that it is lent
+  abbrev pub program : Program
+  program = programOf (L .tables)
 
   abbrev pub code : List Op
   code = instructions (L .code)
 
   -- where its instant begins
   abbrev pub begin : At
-  begin = startAt runs (L .lent .readings) (L .lent .times) code (L .state)
+  begin = startAt program (L .lent .readings) (L .lent .times) code (L .state)
 
   -- no tick of the unit remained, and the instant is refused: at an instruction (19, 16, 17), or because all were run (20, 19)
   abbrev pub InstantStops : ℕ → Type 0
   InstantStops n =
       (L .state .remaining ≡ 0)
-      × (RefusedAt runs (L .lent .readings) (L .lent .times) code (length code) begin n
-      ⊎ Spent runs (L .lent .readings) (L .lent .times) code (length code) begin n)
+      × (RefusedAt program (L .lent .readings) (L .lent .times) code (length code) begin n
+      ⊎ Spent program (L .lent .readings) (L .lent .times) code (length code) begin n)
 
   -- the state before the tick: as it was handed in, or as the instant left it
   abbrev pub BeforeTick : State → Type 0
   BeforeTick u =
       ((1 ≤ L .state .remaining) × (u ≡ L .state))
-      ⊎ ((L .state .remaining ≡ 0) × Ends runs (L .lent .readings) (L .lent .times) code (length code) begin u)
+      ⊎ ((L .state .remaining ≡ 0) × Ends program (L .lent .readings) (L .lent .times) code (length code) begin u)
 
   -- 18: in it two suppliers run
   abbrev pub TickStops : ℕ → Type 0

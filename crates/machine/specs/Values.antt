@@ -1,7 +1,7 @@
 -- Port values row by row: what one row of the copies or of the task ports puts among them. Assumes nothing.
 use Prim.Native.Nat.{ℕ}
 use mathlib.Core.Bool.{Bool, true, false, _&&_}
-use mathlib.Core.List.{List, map}
+use mathlib.Core.List.{List}
 use lib.Dec.{eqb}
 use lib.IntN.{ℤ}
 use lib.ListN.{set}
@@ -9,7 +9,7 @@ use Rattle.theory.specs.Lists.{Put, puts}
 use Rattle.program.specs.Tables.{Tables, output, tpTask, tpPort, copySource, copyDestination}
 use Rattle.program.specs.Sets.{isKind}
 use Rattle.program.specs.Program.{driverRow}
-use Rattle.program.specs.Ports.{valueOf}
+use Rattle.program.specs.Ports.{valueOf, copyPuts}
 
 -- the assignment is made, if the row is one of those asked for
 abbrev pub putRow : Bool → Put → List ℤ → List ℤ
@@ -21,7 +21,7 @@ copyPut T old c = record { place = copyDestination T c; value = valueOf old (cop
 
 -- what a driver moves when its guard holds
 abbrev pub copied : Tables → ℕ → List ℤ → List ℤ
-copied T d v = puts (map (λ c. record { place = c .destination; value = valueOf v (c .source) }) (driverRow T d .copies)) v
+copied T d v = puts (copyPuts v (driverRow T d)) v
 
 -- row k of the task ports is an output of task t
 unfoldable pub isOutputRow : Tables → ℕ → ℕ → Bool

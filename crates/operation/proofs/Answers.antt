@@ -1,9 +1,9 @@
--- What a fresh state and an advance answer: a number that is given, or what runs. Where the E part of an advance is not refused, the
+-- What a fresh state and the two parts of a step answer. Where the E part of an advance is not refused, the
 -- state before the tick is within its limits. Assumes nothing; of that state, that the one handed in is.
 use Prim.Native.Nat.{ℕ, zero, suc, _≤_, _<_}
 use mathlib.Core.Path.{_≡_, refl, sym, ap, subst, _∙_}
 use mathlib.Core.List.{List}
-use native.Mathlib.Decide.{decLt}
+use mathlib.Core.Logic.{_⊎_, inl, inr}
 use native.Mathlib.Omega.{arith}
 use lib.IntN.{ℤ, pos}
 use lib.ListN.{length, replicate}
@@ -11,15 +11,14 @@ use Rattle.cells.specs.Limits.{maxPorts, maxElapsed}
 use Rattle.program.specs.Tables.{Tables}
 use Rattle.program.specs.Program.{Program, programOf}
 use Rattle.rules.specs.Verdict.{programVerdict}
-use Rattle.code.specs.Op.{Op, instructions}
+use Rattle.code.specs.Op.{Op}
 use Rattle.machine.specs.declared.State.{State}
 use Rattle.machine.specs.declared.Advanced.{Advanced}
-use Rattle.machine.specs.Instant.{Outcome, ok, stop}
+use Rattle.machine.specs.Instant.{Outcome, ok, stop, startAt, Ends}
 use Rattle.machine.specs.Schedules.{tickAll}
-use Rattle.machine.specs.Advance.{Lent, Advance, stateOf, ready, step, answer, advanceVerdict, freshAnswer, advanceAnswer}
-use Rattle.machine.proofs.Outcomes.{finished}
+use Rattle.machine.specs.Advance.{Lent, stateOf, ready, step, answer, freshAnswer}
 use Rattle.machine.proofs.Collide.{tick-refused}
-use Rattle.machine.proofs.Ready.{ready-waits, ready-runs}
+use Rattle.machine.proofs.Ready.{ready-leaves, goes}
 use Rattle.machine.proofs.Refusals.{ready-number}
 use Rattle.machine.proofs.Kept.{instant-keeps}
 
@@ -42,30 +41,10 @@ module _ (T : Tables) where
   unfolding freshAnswer
   fresh-accepted e = ap begun (sym e)
 
-module _ (L : Advance) where
-  -- what an advance runs
-  abbrev outcome : Outcome
-  outcome = step (programOf (L .tables)) (instructions (L .code)) (L .schedule) (L .lent) (L .state)
-
-  -- its answer where the number is n
-  abbrev numbered : ℕ → Advanced
-  numbered n = elim n [ zero ↦ answer (L .state) outcome | suc k ↦ record { number = suc k; state = L .state } ]
-
-  -- a number before anything runs: the state as it was
-  pub advance-refused : (n : ℕ) → n ≡ advanceVerdict L → 0 < n → record { number = n; state = L .state } ≡ advanceAnswer L
-  unfolding advanceAnswer
-  advance-refused zero e l = absurd (omega arith)
-  advance-refused (suc n) e l = ap numbered e
-
-  -- none: the step
-  pub advance-steps : advanceVerdict L ≡ 0 → answer (L .state) outcome ≡ advanceAnswer L
-  unfolding advanceAnswer
-  advance-steps e = ap numbered (sym e)
-
 module _ (P : Program) (code : List Op) (readings times : List ℤ) (s : State) where
   -- the answer 0 tells the state before the tick
-  pub ready-ok : (b : Advanced) → b ≡ answer s (ready P code readings times s) → b .number ≡ 0 → ready P code readings times s ≡ ok (b .state)
-  ready-ok b e z = go (ready P code readings times s) refl e
+  pub ready-told : (b : Advanced) → b ≡ answer s (ready P code readings times s) → b .number ≡ 0 → ready P code readings times s ≡ ok (b .state)
+  ready-told b e z = go (ready P code readings times s) refl e
     where
       go : (o : Outcome) → ready P code readings times s ≡ o → b ≡ answer s o → ready P code readings times s ≡ ok (b .state)
       go (ok u) f g = f ∙ ap ok (sym (ap (λ (a : Advanced). a .state) g))
@@ -74,35 +53,27 @@ module _ (P : Program) (code : List Op) (readings times : List ℤ) (s : State) 
   -- which is within its limits, as the one handed in is
   pub ready-small : (u : State) → s .current < length code → s .elapsed ≤ maxElapsed → ready P code readings times s ≡ ok u
       → (u .current < length code) × (u .elapsed ≤ maxElapsed)
-  ready-small u c l e = go (decLt 0 (s .remaining))
+  ready-small u c l e = go (ready-leaves P code readings times s u .0 e)
     where
-      go : Dec (0 < s .remaining) → (u .current < length code) × (u .elapsed ≤ maxElapsed)
-      go (yes m) =
-          subst (λ (v : State). (v .current < length code) × (v .elapsed ≤ maxElapsed))
-          (finished (sym (ready-waits P code readings times s m) ∙ e)) (c, l)
-      go (no m) =
-          let z : s .remaining ≡ 0 = omega (arith, m) in
-          let b = instant-keeps P readings times code s u (sym (ready-runs P code readings times s z) ∙ e) .begins in
-          (b .here, omega (arith, b .elapsed))
+      go : ((1 ≤ s .remaining) × (u ≡ s)) ⊎ ((s .remaining ≡ 0) × Ends P readings times code (length code) (startAt P readings times code s) u)
+          → (u .current < length code) × (u .elapsed ≤ maxElapsed)
+      go (inl w) = subst (λ (v : State). (v .current < length code) × (v .elapsed ≤ maxElapsed)) (sym (w .1)) (c, l)
+      go (inr w) = let b = instant-keeps P readings times code s u (w .1) .begins in (b .here, omega (arith, b .elapsed))
 
 module _ (P : Program) (code : List Op) (S : List ℤ) (X : Lent) (s : State) where
-  -- the step after this outcome of its E part
-  abbrev goes : Outcome → Outcome
-  goes o = elim o [ ok u ↦ tickAll P S (X .results) u | stop n ↦ stop n ]
-
   -- the E part is refused: so is the step
   pub step-stops : (b : Advanced) → b ≡ answer s (ready P code (X .readings) (X .times) s) → 0 < b .number
       → record { number = b .number; state = s } ≡ answer s (step P code S X s)
   step-stops b e l = go (ready P code (X .readings) (X .times) s) e
     where
-      go : (o : Outcome) → b ≡ answer s o → record { number = b .number; state = s } ≡ answer s (goes o)
+      go : (o : Outcome) → b ≡ answer s o → record { number = b .number; state = s } ≡ answer s (goes P code S X s o)
       go (ok u) g = absurd (omega (arith, l, ap (λ (a : Advanced). a .number) g))
       go (stop n) g = ap (λ (a : Advanced). record { number = a .number; state = s }) g
 
   module _ (u : State) (e : ready P code (X .readings) (X .times) s ≡ ok u) (a : Advanced) (f : a ≡ answer u (tickAll P S (X .results) u)) where
     -- the tick is refused: so is the step
     pub tick-stops : 0 < a .number → record { number = a .number; state = s } ≡ answer s (step P code S X s)
-    tick-stops l = go (tickAll P S (X .results) u) f ∙ ap (λ (o : Outcome). answer s (goes o)) (sym e)
+    tick-stops l = go (tickAll P S (X .results) u) f ∙ ap (λ (o : Outcome). answer s (goes P code S X s o)) (sym e)
       where
         go : (o : Outcome) → a ≡ answer u o → record { number = a .number; state = s } ≡ answer s o
         go (ok v) g = absurd (omega (arith, l, ap (λ (a : Advanced). a .number) g))
@@ -110,7 +81,7 @@ module _ (P : Program) (code : List Op) (S : List ℤ) (X : Lent) (s : State) wh
 
     -- it is not: its state is the step's
     pub tick-passes : a .number ≡ 0 → a ≡ answer s (step P code S X s)
-    tick-passes z = go (tickAll P S (X .results) u) refl f ∙ ap (λ (o : Outcome). answer s (goes o)) (sym e)
+    tick-passes z = go (tickAll P S (X .results) u) refl f ∙ ap (λ (o : Outcome). answer s (goes P code S X s o)) (sym e)
       where
         go : (o : Outcome) → tickAll P S (X .results) u ≡ o → a ≡ answer u o → a ≡ answer s o
         go (ok v) h g = g

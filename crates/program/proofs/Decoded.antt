@@ -33,7 +33,13 @@ pub next-below : (M : Mode) (k : ℕ) → k < M .units → nextUnit M k < M .uni
 next-below M k l = rw (next-around M k l) (mod-lt (suc k) {m = M .units} (omega arith))
 
 module _ (T : Tables) where
-  -- the program has as many modes as the tables have rows
+  -- the program has as many tasks, drivers and modes as the tables have rows
+  pub task-count : length (programOf T .tasks) ≡ taskCount T
+  task-count = each-length (taskRow T) (taskCount T) 0
+
+  pub driver-count : length (programOf T .drivers) ≡ driverCount T
+  driver-count = each-length (driverRow T) (driverCount T) 0
+
   pub mode-count : length (programOf T .modes) ≡ modeCount T
   mode-count = each-length (modeRow T) (modeCount T) 0
 

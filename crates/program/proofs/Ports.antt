@@ -2,16 +2,18 @@
 -- Assumes nothing; `takes-at`, that the port lies inside.
 use Prim.Native.Nat.{ℕ, _<_}
 use mathlib.Core.Path.{_≡_, ap, sym, _∙_}
-use mathlib.Core.Bool.{true}
-use mathlib.Core.List.{List, map}
+use mathlib.Core.Bool.{Bool, true, false}
+use mathlib.Core.List.{List, [], map}
 use mathlib.Core.Logic.{_↔_, Iff·trans}
 use lib.IntN.{ℤ, pos}
 use lib.ListN.{length}
 use Rattle.theory.specs.Lists.{gather, member, Put, puts}
+use Rattle.theory.proofs.Bools.{clash, is-true}
 use Rattle.theory.proofs.Members.{Has, has-then, has-as, has-map, has-gather, member-says}
 use Rattle.theory.proofs.Puts.{Wrote, puts-at}
+use Rattle.program.specs.Guard.{holds}
 use Rattle.program.specs.Program.{Driver}
-use Rattle.program.specs.Ports.{valueOf, takes, moves}
+use Rattle.program.specs.Ports.{valueOf, takes, copyPuts, moves}
 
 -- ports that take values: each gets its own
 pub wrote-takes : (value : ℕ → ℤ) (ps : List ℕ) (p : ℕ) (x : ℤ) → Wrote (takes value ps) p x ↔ Has (λ q. (q ≡ p) × (x ≡ value q)) ps
@@ -23,6 +25,23 @@ takes-at value ps v p l m =
     puts-at (pos 0) (takes value ps) v p (value p) l
     (wrote-takes value ps p (value p) .1 (has-as _ _ ps (λ q e. (sym e, ap value e)) (member-says p ps .yes m)))
     (λ y w. has-then _ ps (λ q e. e .1 ∙ ap value (e .0)) (wrote-takes value ps p y .0 w))
+
+-- a port that is none of them is not written
+pub takes-miss : (value : ℕ → ℤ) (ps : List ℕ) (p : ℕ) → member p ps ≡ false → (x : ℤ) → Wrote (takes value ps) p x → ⊥
+takes-miss value ps p n x w =
+    clash (is-true (member-says p ps) (has-as _ _ ps (λ q e. sym (e .0)) (wrote-takes value ps p x .0 w))) n
+
+-- a driver writes only its destinations
+pub moves-miss : (D : Driver) (v : List ℤ) (p : ℕ) → member p (map (λ c. c .destination) (D .copies)) ≡ false → (x : ℤ) → Wrote (moves v D) p x → ⊥
+moves-miss D v p n x = go (holds (D .guard) (valueOf v))
+  where
+    go : (b : Bool) → Wrote (elim b [ true ↦ copyPuts v D | false ↦ [] ]) p x → ⊥
+    go true w =
+        clash
+        (is-true (member-says p (map (λ c. c .destination) (D .copies)))
+        (has-map (λ y. p ≡ y) (λ c. c .destination) (D .copies) .1
+        (has-as _ _ (D .copies) (λ c e. sym (e .0)) (has-map (λ a. (a .place ≡ p) × (x ≡ a .value)) _ (D .copies) .0 w)))) n
+    go false w = w
 
 -- several drivers write what each writes
 pub wrote-all : {R : Type 0} (v : List ℤ) (f : R → Driver) (rows : List R) (p : ℕ) (x : ℤ)

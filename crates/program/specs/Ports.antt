@@ -20,9 +20,13 @@ valuesOf v ps = map (valueOf v) ps
 abbrev pub takes : (ℕ → ℤ) → List ℕ → List Put
 takes value ps = map (λ p. record { place = p; value = value p }) ps
 
--- what a driver moves where the ports have the values v: nothing unless its guard holds
+-- what a driver's copies move where the ports have the values v
+abbrev pub copyPuts : List ℤ → Driver → List Put
+copyPuts v D = map (λ c. record { place = c .destination; value = valueOf v (c .source) }) (D .copies)
+
+-- what the driver moves: nothing unless its guard holds
 abbrev pub moves : List ℤ → Driver → List Put
-moves v D = elim (holds (D .guard) (valueOf v)) [ true ↦ map (λ c. record { place = c .destination; value = valueOf v (c .source) }) (D .copies) | false ↦ [] ]
+moves v D = elim (holds (D .guard) (valueOf v)) [ true ↦ copyPuts v D | false ↦ [] ]
 
 -- "a driver reads all its sources before it writes any destination"
 abbrev pub drive : Driver → List ℤ → List ℤ

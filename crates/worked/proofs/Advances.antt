@@ -1,24 +1,29 @@
 -- F's first advance meets the premises of what is said of advances, accepted and refused, and of straight-line code. Assumes nothing.
-use Prim.Native.Nat.{_+_, _/_, _%_, _^_}
+use Prim.Native.Nat.{_<_, _+_, _/_, _%_, _^_}
 use mathlib.Core.Path.{_≡_, refl}
 use mathlib.Core.Bool.{false}
+use mathlib.Core.List.{List, [], _∷_, map}
 use mathlib.Core.Logic.{_⊎_}
 use native.Mathlib.Omega.{arith}
-use mathlib.Core.List.{List, [], _∷_, map}
 use lib.ListN.{length, take, drop, replicate}
 use Rattle.cells.specs.Limits.{wordsEach}
+use Rattle.program.specs.Tables.{taskCount}
 use Rattle.program.specs.Program.{programOf}
 use Rattle.code.specs.Op.{instructions}
 use Rattle.code.specs.Compile.{listingOf}
 use Rattle.code.proofs.At as place
+use Rattle.suppliers.specs.Schedule.{joinedBad}
+use Rattle.suppliers.proofs.Schedule.{joined-bars}
 use Rattle.machine.specs.declared.State.{State}
 use Rattle.machine.specs.Instant.{startAt, Goes, Ends}
 use Rattle.machine.specs.Change.{withLeft}
 use Rattle.machine.specs.Advance.{Advance, freshAnswer, advanceVerdict, advanceAnswer}
+use Rattle.machine.specs.Schedules.{one, running}
 use Rattle.machine.specs.Stops.{InstantStops, TickStops}
 use Rattle.machine.specs.Moves.{Advances}
 use Rattle.machine.specs.Straight.{Straight, calls, opOf, effects, AllPassing}
 use Rattle.machine.proofs.Stretch.{straight}
+use Rattle.machine.proofs.Declared.{running-declared}
 use Rattle.demands.specs.Composed.{joined, code}
 use Rattle.demands.specs.Supplied.{lentTo}
 use Rattle.demands.proofs.Machine.{run-exact, advance-moves, time-moves, instant-counted}
@@ -77,6 +82,19 @@ F-time = time-moves first accepted
 pub F-counted : (u : State) × Ends (programOf (F 6 2)) (first .lent .readings) (first .lent .times) (instructions (code F-system)) (length (code F-system) / wordsEach)
     (startAt (programOf (F 6 2)) (first .lent .readings) (first .lent .times) (instructions (code F-system)) begun) u
 F-counted = instant-counted first accepted fresh-ends
+
+-- the schedule's rows are right, and in the second tick task 1 runs: it is declared
+rows-right : joinedBad (F 6 2) (joined F-system) ≡ false
+unfolding computed
+rows-right = refl
+
+one-runs : running (joined F-system) (advanceAnswer first .state) ≡ one 1
+unfolding computed
+one-runs = refl
+
+pub F-declared : 1 < taskCount (F 6 2)
+F-declared =
+    running-declared (F 6 2) (joined F-system) (advanceAnswer first .state) 1 (joined-bars (F 6 2) (joined F-system) .ok rows-right .rows) one-runs
 
 -- the block at address 1, up to its sensor: two output copies, an update and a reading
 abbrev head : List Straight

@@ -9,7 +9,7 @@ use Rattle.program.specs.Tables.{tables}
 use Rattle.machine.specs.Advance.{Advance, advanceVerdict}
 use Rattle.operation.specs.Lent.{lent, advancing}
 use Rattle.operation.proofs.Numbers.{runs-named, runs-few, runs-rows, runs-state}
-use Rattle.operation.proofs.Answers.{advance-refused, advance-steps}
+use Rattle.machine.proofs.Answered.{advance-refused, advance-steps}
 use Rattle.operation.proofs.advance.Statement.{statement}
 use Rattle.operation.proofs.advance.Tie as tie
 

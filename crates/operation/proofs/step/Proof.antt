@@ -13,7 +13,7 @@ use Rattle.code.proofs.Fetch.{instructions-length}
 use Rattle.machine.specs.Instant.{ok}
 use Rattle.machine.specs.Advance.{Lent, ready}
 use Rattle.operation.specs.Lent.{lent}
-use Rattle.operation.proofs.Answers.{ready-ok, ready-small, step-stops, tick-stops, tick-passes}
+use Rattle.operation.proofs.Answers.{ready-told, ready-small, step-stops, tick-stops, tick-passes}
 use Rattle.operation.proofs.step.Statement.{statement}
 use Rattle.operation.proofs.step.Tie as tie
 
@@ -37,7 +37,7 @@ between : (c : tie.Else1) (T : Tables) → T .ports ≡ start c .args .ports .no
     ≡ ok (c .before .before .ready .result .state)
 between c T e f g h i =
     let a = start c .args in
-    ready-ok (programOf T) (instructions (a .code .now)) (a .readings .now) (a .times .now) (a .s) (c .before .before .ready .result)
+    ready-told (programOf T) (instructions (a .code .now)) (a .readings .now) (a .times .now) (a .s) (c .before .before .ready .result)
     (c .before .before .ready .ensures T e f g h i) (omega (arith, c .if1 .left))
 
 ready-requires : tie.Need-ready-requires

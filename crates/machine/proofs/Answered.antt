@@ -1,0 +1,30 @@
+-- What an advance answers: a number that is given before anything runs, with the state as it was, or what its step comes to.
+-- Assumes nothing.
+use Prim.Native.Nat.{ℕ, zero, suc, _<_}
+use mathlib.Core.Path.{_≡_, sym, ap}
+use native.Mathlib.Omega.{arith}
+use Rattle.program.specs.Program.{programOf}
+use Rattle.code.specs.Op.{instructions}
+use Rattle.machine.specs.declared.Advanced.{Advanced}
+use Rattle.machine.specs.Instant.{Outcome}
+use Rattle.machine.specs.Advance.{Advance, step, answer, advanceVerdict, advanceAnswer}
+
+module _ (L : Advance) where
+  -- what an advance runs
+  abbrev pub outcome : Outcome
+  outcome = step (programOf (L .tables)) (instructions (L .code)) (L .schedule) (L .lent) (L .state)
+
+  -- its answer where the number is n
+  abbrev numbered : ℕ → Advanced
+  numbered n = elim n [ zero ↦ answer (L .state) outcome | suc k ↦ record { number = suc k; state = L .state } ]
+
+  -- a number before anything runs: the state as it was
+  pub advance-refused : (n : ℕ) → n ≡ advanceVerdict L → 0 < n → record { number = n; state = L .state } ≡ advanceAnswer L
+  unfolding advanceAnswer
+  advance-refused zero e l = absurd (omega arith)
+  advance-refused (suc n) e l = ap numbered e
+
+  -- none: the step
+  pub advance-steps : advanceVerdict L ≡ 0 → answer (L .state) outcome ≡ advanceAnswer L
+  unfolding advanceAnswer
+  advance-steps e = ap numbered (sym e)
