@@ -30,7 +30,8 @@ use Rattle.machine.proofs.Fits.{advance-shape-bars, state-bars}
 use Rattle.machine.proofs.Refusals.{refused-keeps}
 use Rattle.demands.specs.Calls.{CompileExact, WindowsExact, PartExact, AdvanceExact, RefusedKeeps, FreshNumber}
 
-long-bars : (T : Tables) → Bars (codeLong T) (CodeFits T)
+-- 11 bars code within the limit
+pub long-bars : (T : Tables) → Bars (codeLong T) (CodeFits T)
 unfolding codeLong
 long-bars T = bars-lt _ _
 

@@ -1,6 +1,10 @@
--- What is proved of the demands so far.
+-- The demands, proved.
 pub mod Calls
 pub mod Machine
+pub mod Overrun
 pub mod Verdict
-pub mod Supplied
 pub mod Supplier
+pub mod Sound
+pub mod Compiled
+pub mod Composed
+pub mod Supplied

@@ -23,17 +23,18 @@ use Rattle.rules.specs.Verdict.{programVerdict}
 use Rattle.rules.proofs.Shape.{ports-few, tasks-few}
 use Rattle.rules.proofs.Accepted.{accepted-shaped, accepted-fields}
 use Rattle.code.specs.Op.{instructions}
+use Rattle.suppliers.specs.Windows.{windowsVerdict}
+use Rattle.suppliers.proofs.Accepted.{windows-accepted}
 use Rattle.giotto.specs.Instant.{Function, results}
 use Rattle.giotto.specs.Execution.{releasedAt}
 use Rattle.giotto.proofs.Released.{released-declared}
-use Rattle.suppliers.specs.Windows.{windowsVerdict}
-use Rattle.suppliers.proofs.Accepted.{windows-accepted}
 use Rattle.machine.specs.Instant.{Outcome, ok, stop}
 use Rattle.machine.specs.Schedules.{Who, nobody, one, several, running}
 use Rattle.machine.specs.Advance.{ready}
 use Rattle.machine.specs.declared.State.{State}
 use Rattle.demands.specs.Composed.{System, joined, code, advanced, stateAt, Fair}
-use Rattle.demands.specs.Supplied.{givenBy, givenIn, lentTo, history, supplied}
+use Rattle.demands.specs.Supplied.{givenBy, givenIn, lentTo, history, supplied, SuppliedRight}
+use Rattle.demands.proofs.Composed.{composed-run}
 
 -- each task's worst-case time, as it is lent
 abbrev pub worstTimes : Program → List ℤ
@@ -109,3 +110,8 @@ worst-case-fair Y w F readings rl =
     premises-met Y F readings (λ k. worstTimes (programOf (Y .tables))) w rl
     (λ n. each-length (λ t. pos (task (programOf (Y .tables)) t .worst)) maxTasks 0)
     (λ n t m. worst-in-range (Y .tables) a t (released-declared (Y .tables) (accepted-fields (Y .tables) a) F readings n t m))
+
+-- every accepted system runs as Giotto's execution
+pub supplied-right : SuppliedRight
+supplied-right Y a F readings times rl tl tr n =
+    composed-run Y a .1 F (supplied Y F readings times) n (λ k l. premises-met Y F readings times (a .windows) rl tl tr k)

@@ -26,7 +26,7 @@ use Rattle.runs.specs.Schedule.{scheduleWidth}
 use Rattle.runs.specs.Round.{Choice, Good, Fair, worstCase, Break, none, outside, late, worstBreak, nothing}
 use Rattle.runs.proofs.Windows.{in-window-says}
 use Rattle.runs.proofs.Tick.{tick-runs}
-use Rattle.runs.proofs.Dominated.{unit-dominated}
+use Rattle.runs.proofs.Dominated.{Any, any-rows, unit-dominated}
 use Rattle.runs.proofs.First.{judge-exactly}
 use Rattle.runs.proofs.Exactly.{no-break-exactly}
 use Rattle.suppliers.specs.Windows.{windowsVerdict}
@@ -73,11 +73,12 @@ module _ (L : Asked) (a : partVerdict L ≡ 0) where
 -- a shorter run of a unit is dominated
 pub domination : Domination
 domination C c d k r q h l b =
-    let w = unit-dominated C c d k h r q l b in
+    let o = any-rows (C .block k) in
+    let w = unit-dominated Any C c d k o (λ j _. h j) r q l (λ j _. b j) in
     record {
       further = λ e. w e .further;
-      owes = λ e. w e .owes;
-      runs-only = λ e. tick-runs (C .block k) e (shorter C c d k r q e) (longer C c d k r q e) (w e);
+      owes = λ e j. w e .owes j tt;
+      runs-only = λ e. tick-runs Any (C .block k) e (shorter C c d k r q e) (longer C c d k r q e) o (w e);
     }
 
 -- accepted exactly where every fair run of every mode keeps to its windows and terminations

@@ -18,7 +18,7 @@ use Rattle.code.specs.Op.{Op, emit, instructions}
 use Rattle.code.specs.Compile.{Compiling, listingOf, codeLong, sliceShort, sliceRefusals, compileVerdict, compileAnswer, compileSlice}
 use Rattle.code.proofs.Words.{emit-instructions, emit-length}
 use Rattle.code.proofs.Accepted.{accepted-length}
-use Rattle.demands.specs.Verdict.{VerdictExact, AcceptedExactly, MissingReading, ListingWritten, RefusalKeeps}
+use Rattle.demands.specs.Verdict.{VerdictExact, AcceptedExactly, MissingReading, wordsOf, ListingWritten, RefusalKeeps}
 
 -- the verdict is the number of the first rule that is broken
 pub verdict-exact : VerdictExact
@@ -36,9 +36,9 @@ missing-reading T v a d l k w = missing-guard T v a d l k w
 own : List (Refusal Compiling)
 own = map (within (λ (L : Compiling). L .tables)) (shapeRefusal ∷ tableRefusals)
 
-accepted : (L : Compiling) → compileVerdict L ≡ 0 → programVerdict (L .tables) ≡ 0
+pub compiled-accepted : (L : Compiling) → compileVerdict L ≡ 0 → programVerdict (L .tables) ≡ 0
 unfolding compileVerdict
-accepted L e = lent-accepted (λ (L : Compiling). L .tables) (λ L. shapeBad (L .tables)) sliceRefusals L (λ s. s) e
+compiled-accepted L e = lent-accepted (λ (L : Compiling). L .tables) (λ L. shapeBad (L .tables)) sliceRefusals L (λ s. s) e
 
 fits : (L : Compiling) → compileVerdict L ≡ 0 → (length (listingOf (L .tables)) ≤ maxCode) × (wordsEach * length (listingOf (L .tables)) ≤ length (L .slice))
 unfolding compileVerdict own codeLong sliceShort
@@ -46,12 +46,19 @@ fits L e =
     (bars-lt maxCode (length (listingOf (L .tables))) or bars-lt (length (L .slice)) (wordsEach * length (listingOf (L .tables)))) .ok
     (verdict-clear sliceRefusals L (omega arith) (verdict-both own sliceRefusals L (omega arith) e .1) .0)
 
+-- the words that it leaves are those of the listing
+pub words-are : (L : Compiling) → compileVerdict L ≡ 0 → wordsOf L ≡ emit (listingOf (L .tables))
+words-are L e =
+    rw (e, compileAnswer, compileSlice)
+    (take-at (emit (listingOf (L .tables))) (drop (wordsEach * length (listingOf (L .tables))) (L .slice)) (wordsEach * length (listingOf (L .tables)))
+    (emit-length (listingOf (L .tables))))
+
 -- not refused: the listing is written, and nothing else
 pub listing-written : ListingWritten
 listing-written L e = record {
-  length-rule = rw (e, compileAnswer) (accepted-length (L .tables) (accepted L e));
+  length-rule = rw (e, compileAnswer) (accepted-length (L .tables) (compiled-accepted L e));
   few = rw (e, compileAnswer) (fits L e .0);
-  the-listing = rw (e, compileAnswer, compileSlice) (ap instructions (take-at (emit os) rest n words) ∙ emit-instructions os);
+  the-listing = ap instructions (words-are L e) ∙ emit-instructions os;
   the-rest = rw (e, compileAnswer, compileSlice) (drop-at (emit os) rest n words);
   same-length = rw (e, compileSlice) (simp (length-append, length-drop) (omega (arith, words, fits L e .1)));
 }

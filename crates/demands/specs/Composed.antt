@@ -1,51 +1,52 @@
--- Demand 3, second half, as a statement: suppliers accepted one by one, composed, run for ever without overrun or collision,
--- and at every tick every port holds the value that Giotto's definition gives for the same readings.
--- The proof is to come with the composed run (docs/ARCHITECTURE.md). Assumes nothing.
+-- Demand 3, second half, as statements about the public calls: suppliers accepted one by one, composed, run for ever without overrun or
+-- collision, and at every tick every port holds the value that Giotto's definition gives for the same readings.
+-- Proved of these definitions in proofs/Composed.antt. Assumes nothing.
 use Prim.Native.Nat.{ℕ, zero, suc, _≤_, _<_}
 use mathlib.Core.Path.{_≡_}
-use mathlib.Core.Bool.{true}
 use mathlib.Core.List.{List}
 use lib.IntN.{ℤ, pos}
-use lib.ListN.{length}
-use Rattle.theory.specs.Lists.{cat, member}
-use Rattle.cells.specs.Cell.{numAt}
-use Rattle.cells.specs.Limits.{suppliers, maxPorts, maxTasks}
+use Rattle.theory.specs.Lists.{cat}
+use Rattle.cells.specs.Limits.{suppliers}
 use Rattle.program.specs.Tables.{Tables}
-use Rattle.program.specs.Program.{programOf, task}
-use Rattle.program.specs.Ports.{valueOf, valuesOf}
-use Rattle.rules.specs.Fields.{InRange}
-use Rattle.code.specs.Op.{emit, instructions}
-use Rattle.code.specs.Compile.{listingOf}
+use Rattle.program.specs.Program.{programOf}
+use Rattle.code.specs.Op.{emit}
+use Rattle.code.specs.Compile.{listingOf, Compiling, compileVerdict}
 use Rattle.suppliers.specs.Windows.{windowsVerdict}
 use Rattle.suppliers.specs.Supplier.{supplierVerdict}
-use Rattle.runs.specs.Tick.{leftOf}
-use Rattle.giotto.specs.Instant.{Function}
-use Rattle.giotto.specs.Execution.{releasedAt, portsAt}
-use Rattle.machine.specs.Instant.{ok}
-use Rattle.machine.specs.Schedules.{one, running}
-use Rattle.machine.specs.Advance.{Lent, freshAnswer, ready, advanceAnswer}
+use Rattle.giotto.specs.Instant.{Configuration, Function}
+use Rattle.giotto.specs.Execution.{pass, execution, portsAt}
+use Rattle.machine.specs.Advance.{Lent, freshAnswer, advanceAnswer}
 use Rattle.machine.specs.declared.State.{State}
 use Rattle.machine.specs.declared.Advanced.{Advanced}
+use Rattle.composed.specs.Sound.{Sound}
+use Rattle.composed.specs.Suited.{Suited}
+use Rattle.composed.specs.Related.{Related}
+use Rattle.demands.specs.Verdict.{wordsOf}
 
--- what is composed: the tables, the windows, and each supplier's part of the schedule
+-- what is composed: the tables, the windows, each supplier's part of the schedule, and the slice that is lent for compiling
 pub record System : Type 0 where
   pub tables : Tables
   pub windows : List ℤ
   pub parts : ℕ → List ℤ
+  pub slice : List ℕ
 
--- program and windows accepted, each supplier's code accepted alone
+abbrev pub compiling : System → Compiling
+compiling Y = record { tables = Y .tables; slice = Y .slice }
+
+-- program and windows accepted, the program compiled, each supplier's code accepted alone
 pub record Accepted (Y : System) : Type 0 where
   pub windows : windowsVerdict (record { tables = Y .tables; windows = Y .windows }) ≡ 0
+  pub compiled : compileVerdict (compiling Y) ≡ 0
   pub suppliers : (s : ℕ) → s < suppliers
       → supplierVerdict (record { tables = Y .tables; windows = Y .windows; part = Y .parts s; supplier = pos s }) .number ≡ 0
 
 module _ (Y : System) where
-  -- the parts one after the other, and the compiled E code
+  -- the parts one after the other, and the E code that compiling left
   abbrev pub joined : List ℤ
   joined = cat (Y .parts) suppliers
 
   abbrev pub code : List ℕ
-  code = emit (listingOf (Y .tables))
+  code = wordsOf (compiling Y)
 
   -- one advance, with what is lent to it
   abbrev pub advanced : Lent → State → Advanced
@@ -60,30 +61,48 @@ module _ (Y : System) where
     abbrev pub readings : ℕ → List ℤ
     readings n = lents n .readings
 
-    -- What is asked of tick n, and only of what is used in it
-    pub record Fair (n : ℕ) : Type 0 where
-      pub readings-length : length (lents n .readings) ≡ maxPorts
-      pub results-length : length (lents n .results) ≡ maxPorts
-      pub times-length : length (lents n .times) ≡ maxTasks
-      -- the execution time of a task that is released in it lies in 1..worst case
-      pub times : (t : ℕ) → member t (releasedAt (programOf (Y .tables)) F readings n) ≡ true
-          → InRange (numAt (lents n .times) t) (task (programOf (Y .tables)) t .worst)
-      -- the results of a task that completes in it are the function of the task and its inputs
-      pub results : (u : State) (t p : ℕ)
-          → ready (programOf (Y .tables)) (instructions code) (lents n .readings) (lents n .times) (stateAt lents n) ≡ ok u
-          → running joined u ≡ one t
-          → leftOf (u .left) t ≡ 1
-          → member p (task (programOf (Y .tables)) t .outputs) ≡ true
-          → valueOf (lents n .results) p ≡ F t (valuesOf (u .ports) (task (programOf (Y .tables)) t .inputs)) p
+    -- Giotto's configuration before tick n: an execution by 001, without machine, code or schedule
+    abbrev pub configurationAt : ℕ → Configuration
+    configurationAt n = execution (programOf (Y .tables)) F readings n
+
+    -- What is asked of tick n, and only of what is used in it: whole slices; the time of a task that is released in it from 1 to its
+    -- worst case; the results of a task that completes in it F of the task and of the values of its inputs
+    abbrev pub Fair : ℕ → Type 0
+    Fair n = Suited (Y .tables) code joined F n (configurationAt n) (stateAt lents n) (lents n)
 
     -- What is promised of tick n: it is not refused, and after it all ports hold Giotto's values
     pub record Right (n : ℕ) : Type 0 where
       pub accepted : advanced (lents n) (stateAt lents n) .number ≡ 0
       pub ports : stateAt lents (suc n) .ports ≡ portsAt (programOf (Y .tables)) F readings n
 
--- The composed run is Giotto's
+-- The composed run is Giotto's: the fresh state is given, and every tick is right as long as all ticks up to it are fair
 abbrev pub ComposedRun : Type 0
 ComposedRun =
-    (Y : System) → Accepted Y → (F : Function) (lents : ℕ → Lent) (n : ℕ)
-    → ((k : ℕ) → k ≤ n → Fair Y F lents k)
-    → Right Y F lents n
+    (Y : System) → Accepted Y
+    → (freshAnswer (Y .tables) .number ≡ 0)
+    × ((F : Function) (lents : ℕ → Lent) (n : ℕ) → ((k : ℕ) → k ≤ n → Fair Y F lents k) → Right Y F lents n)
+
+-- So values do not hang on who computes when: two accepted systems of one program, with other windows, other schedule code, other execution
+-- times, show the same ports at every tick for the same task function and readings
+abbrev pub SameValues : Type 0
+SameValues =
+    (Y Z : System) → Accepted Y → Accepted Z → Y .tables ≡ Z .tables
+    → (F : Function) (lents others : ℕ → Lent) → ((k : ℕ) → lents k .readings ≡ others k .readings)
+    → (n : ℕ) → ((k : ℕ) → k ≤ n → Fair Y F lents k) → ((k : ℕ) → k ≤ n → Fair Z F others k)
+    → stateAt Y lents (suc n) .ports ≡ stateAt Z others (suc n) .ports
+
+-- The relation between Giotto's configuration and the machine's state (composed/specs/Related) that the proof carries is kept by one tick
+abbrev pub RelationKept : Type 0
+RelationKept =
+    (T : Tables) (W S : List ℤ) → Sound T W S
+    → (F : Function) (n : ℕ) (C : Configuration) (s : State) (X : Lent)
+    → Suited T (emit (listingOf T)) S F n C s X
+    → Related T W S F n C s
+    → let a = advanceAnswer (record { tables = T; code = emit (listingOf T); schedule = S; state = s; lent = X }) in
+    (a .number ≡ 0) × Related T W S F (suc n) (pass (programOf T) F n (X .readings) C) (a .state)
+
+-- and holds before every tick of a composed run
+abbrev pub RelatedAlways : Type 0
+RelatedAlways =
+    (Y : System) → Accepted Y → (F : Function) (lents : ℕ → Lent) (n : ℕ) → ((k : ℕ) → k < n → Fair Y F lents k)
+    → Related (Y .tables) (Y .windows) (joined Y) F n (configurationAt Y F lents n) (stateAt Y lents n)

@@ -3,5 +3,6 @@ pub mod Calls
 pub mod Machine
 pub mod Verdict
 pub mod Supplier
+pub mod Compiled
 pub mod Composed
 pub mod Supplied

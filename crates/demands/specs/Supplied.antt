@@ -1,20 +1,25 @@
--- A run with results that are a task function of the tasks' inputs: for any readings, times and function. It shows that the
--- premises of the composed run can be met (proofs/Supplied.antt). Assumes nothing.
+-- A run with results that are a task function of the tasks' inputs: for any readings, times and function. It meets the premises of the
+-- composed run, so it is Giotto's (proofs/Supplied.antt). Assumes nothing.
 use Prim.Native.Nat.{ℕ, zero, suc}
+use mathlib.Core.Path.{_≡_}
+use mathlib.Core.Bool.{true}
 use mathlib.Core.List.{List}
 use lib.IntN.{ℤ, pos}
-use lib.ListN.{replicate}
-use Rattle.theory.specs.Lists.{puts}
-use Rattle.cells.specs.Limits.{maxPorts}
+use lib.ListN.{length, replicate}
+use Rattle.theory.specs.Lists.{member, puts}
+use Rattle.cells.specs.Cell.{numAt}
+use Rattle.cells.specs.Limits.{maxPorts, maxTasks}
 use Rattle.program.specs.Program.{Program, programOf, task}
 use Rattle.program.specs.Ports.{takes}
+use Rattle.rules.specs.Fields.{InRange}
 use Rattle.code.specs.Op.{instructions}
 use Rattle.giotto.specs.Instant.{Function, results}
+use Rattle.giotto.specs.Execution.{releasedAt}
 use Rattle.machine.specs.Instant.{Outcome, ok, stop}
 use Rattle.machine.specs.Schedules.{Who, nobody, one, several, running}
 use Rattle.machine.specs.Advance.{Lent, freshAnswer, ready}
 use Rattle.machine.specs.declared.State.{State}
-use Rattle.demands.specs.Composed.{System, joined, code, advanced}
+use Rattle.demands.specs.Composed.{System, Accepted, joined, code, advanced, Right}
 
 -- by port, what the task that runs gives; 0 elsewhere
 abbrev pub givenBy : Program → Function → State → Who → List ℤ
@@ -42,3 +47,13 @@ module _ (Y : System) (F : Function) (readings times : ℕ → List ℤ) where
 
   abbrev pub supplied : ℕ → Lent
   supplied n = lentTo n (history n)
+
+-- So every accepted system runs as Giotto's execution, for any task function, any readings and any times in range
+abbrev pub SuppliedRight : Type 0
+SuppliedRight =
+    (Y : System) → Accepted Y → (F : Function) (readings times : ℕ → List ℤ)
+    → ((n : ℕ) → length (readings n) ≡ maxPorts)
+    → ((n : ℕ) → length (times n) ≡ maxTasks)
+    → ((n t : ℕ) → member t (releasedAt (programOf (Y .tables)) F readings n) ≡ true
+    → InRange (numAt (times n) t) (task (programOf (Y .tables)) t .worst))
+    → (n : ℕ) → Right Y F (supplied Y F readings times) n

@@ -3,6 +3,7 @@
 -- Proved of these definitions in proofs/Verdict.antt. Assumes nothing.
 use Prim.Native.Nat.{ℕ, _*_, _≤_, _<_}
 use mathlib.Core.Path.{_≡_}
+use mathlib.Core.List.{List}
 use mathlib.Core.Logic.{_↔_}
 use lib.ListN.{length, take, drop}
 use Rattle.theory.specs.Verdict.{First, Keep}
@@ -29,11 +30,15 @@ MissingReading =
     (T : Tables) → Values (T .drivers) → programVerdict T ≡ 0 → (d : ℕ) → d < driverCount T → guardKind T d ≡ kindInterval
     → Inside (guardLow T d) noReading (guardHigh T d) → (guardLow T d ≡ noReading) × (guardHigh T d ≡ noReading)
 
+-- the words that compiling leaves in the slice that it is lent
+abbrev pub wordsOf : Compiling → List ℕ
+wordsOf L = take (wordsEach * compileAnswer L .length) (compileSlice L)
+
 -- compiling, not refused: the length is 01's rule, the words written are those of the listing, the rest of the slice is as before
 pub record Compiles (L : Compiling) : Type 0 where
   pub length-rule : compileAnswer L .length ≡ lengthRule (programOf (L .tables))
   pub few : compileAnswer L .length ≤ maxCode
-  pub the-listing : instructions (take (wordsEach * compileAnswer L .length) (compileSlice L)) ≡ listingOf (L .tables)
+  pub the-listing : instructions (wordsOf L) ≡ listingOf (L .tables)
   pub the-rest : drop (wordsEach * compileAnswer L .length) (compileSlice L) ≡ drop (wordsEach * compileAnswer L .length) (L .slice)
   pub same-length : length (compileSlice L) ≡ length (L .slice)
 

@@ -27,7 +27,7 @@ module _ (T : Tables) where
       (λ c. r .1 (t, c, refl))
 
   -- the test of the due tasks says that the task is enabled
-  enabled-says : (m k t : ℕ) → m < modeCount T → Says (member t (dueTasks (mode (programOf T) m) k)) (Enabled T m k t)
+  pub enabled-says : (m k t : ℕ) → m < modeCount T → Says (member t (dueTasks (mode (programOf T) m) k)) (Enabled T m k t)
   enabled-says m k t l =
       let r = due-tasks T m k l (λ x. t ≡ x) in
       says-as (member-says t (dueTasks (mode (programOf T) m) k))

@@ -1,4 +1,5 @@
--- The executable instant is 001's successor configuration, a configuration has one successor, and the execution goes by successors.
+-- The executable instant is 001's successor configuration, a configuration has one successor, and the execution goes by successors. The
+-- tasks of a mode, and what an instant leaves as it was.
 pub mod Steps
 pub mod Drives
 pub mod Outputs
@@ -9,4 +10,7 @@ pub mod Active
 pub mod Succeeds
 pub mod One
 pub mod Released
+pub mod Once
 pub mod Execution
+pub mod Due
+pub mod Stays

@@ -23,8 +23,24 @@ use Rattle.rules.specs.Fields.{Fields}
 use Rattle.rules.specs.Modes.{Invocations}
 use Rattle.rules.proofs.Shape.{ports-few}
 use Rattle.giotto.specs.Instant.{Configuration, completed, afterTasks}
-use Rattle.giotto.specs.Successor.{Next, Completed, TaskWrites}
+use Rattle.giotto.specs.Successor.{Next, Completed, Enabled, TaskWrites}
 use Rattle.giotto.proofs.Steps.{next-puts, due-tasks, same-row}
+
+-- two tasks that are due together and share an output are one
+pub enabled-one : (T : Tables) → Invocations T → (m k t u p : ℕ) → Enabled T m k t → Enabled T m k u → Output T t p → Output T u p → t ≡ u
+enabled-one T v m k t u p a b o q = sym (a .2) ∙ ap (invTask T) rows ∙ b .2
+  where
+    of-a : Output T (invTask T (a .0)) p
+    of-a = rw (a .2) o
+
+    of-b : Output T (invTask T (b .0)) p
+    of-b = rw (b .2) q
+
+    rows : a .0 ≡ b .0
+    rows =
+        same-row (a .0) (b .0)
+        (λ l. v .outputs-apart (b .0) (a .0) p l (b .1 .in-table) (a .1 .of-mode ∙ sym (b .1 .of-mode)) of-b of-a)
+        (λ l. v .outputs-apart (a .0) (b .0) p l (a .1 .in-table) (b .1 .of-mode ∙ sym (a .1 .of-mode)) of-a of-b)
 
 module _ (T : Tables) (C : Configuration) where
   -- some completed task
@@ -43,19 +59,7 @@ module _ (T : Tables) (C : Configuration) where
 
   -- two completed tasks that share an output are one
   completed-one : Invocations T → (t u p : ℕ) → Completed T C t → Completed T C u → Output T t p → Output T u p → t ≡ u
-  completed-one v t u p a b o q = sym (a .1 .2) ∙ ap (invTask T) rows ∙ b .1 .2
-    where
-      of-a : Output T (invTask T (a .1 .0)) p
-      of-a = rw (a .1 .2) o
-
-      of-b : Output T (invTask T (b .1 .0)) p
-      of-b = rw (b .1 .2) q
-
-      rows : a .1 .0 ≡ b .1 .0
-      rows =
-          same-row (a .1 .0) (b .1 .0)
-          (λ l. v .outputs-apart (b .1 .0) (a .1 .0) p l (b .1 .1 .in-table) (a .1 .1 .of-mode ∙ sym (b .1 .1 .of-mode)) of-b of-a)
-          (λ l. v .outputs-apart (a .1 .0) (b .1 .0) p l (a .1 .1 .in-table) (b .1 .1 .of-mode ∙ sym (a .1 .1 .of-mode)) of-a of-b)
+  completed-one v t u p a b = enabled-one T v (C .mode) (C .unit) t u p (a .1) (b .1)
 
 module _ (T : Tables) (result : ℕ → ℕ → ℤ) where
   -- the assignments of step 1

@@ -4,7 +4,6 @@ pub mod Outcomes
 pub mod Collide
 pub mod Instructions
 pub mod Instants
-pub mod Stretch
 pub mod Fits
 pub mod Ready
 pub mod Answered

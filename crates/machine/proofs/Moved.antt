@@ -62,7 +62,7 @@ positions-rise : (S : List ℤ) (s : State) (j : ℕ) → j < suppliers → getD
 positions-rise S s j l = let e = each-at (movedOf S s) suppliers j 0 l in omega (arith, e)
 
 -- a tick that is not refused
-tick-passes : (P : Program) (S results : List ℤ) (s u : State) → tickAll P S results s ≡ ok u → Passes P S results s u
+pub tick-passes : (P : Program) (S results : List ℤ) (s u : State) → tickAll P S results s ≡ ok u → Passes P S results s u
 tick-passes P S results s u = go (running S s) refl
   where
     go : (w : Who) → running S s ≡ w → ticked P S results s w ≡ ok u → Passes P S results s u

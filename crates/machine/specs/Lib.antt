@@ -7,4 +7,3 @@ pub mod Schedules
 pub mod Advance
 pub mod Stops
 pub mod Moves
-pub mod Straight

@@ -1,8 +1,9 @@
 -- The program that the tables say: its parts are the tables' rows, by number and those that are due; the next unit.
 -- Assumes nothing; of a part by number, that it is declared.
 use Prim.Native.Nat.{ℕ, suc, _%_, _<_}
-use mathlib.Core.Path.{_≡_, refl, sym}
+use mathlib.Core.Path.{_≡_, refl, sym, ap, _∙_}
 use mathlib.Core.Bool.{Bool, true, false, _&&_}
+use mathlib.Core.List.{map}
 use mathlib.Core.Logic.{_↔_, Iff·trans}
 use native.Mathlib.Nat.{mod-self, mod-eq-of-lt, mod-lt}
 use native.Mathlib.Omega.{arith}
@@ -12,7 +13,7 @@ use borrow.Author.Tests.{eqb-true, eqb-false, eq-eqb, lt-ltb}
 use Rattle.theory.specs.Claim.{Says}
 use Rattle.theory.specs.Lists.{those, keep, member}
 use Rattle.theory.proofs.Bools.{clash, says-eq, is-true, _and_}
-use Rattle.theory.proofs.Lists.{each-length, each-at, every-each, every-at, keep-those, those-same}
+use Rattle.theory.proofs.Lists.{each-length, each-at, every-each, every-at, keep-those, those-same, map-those}
 use Rattle.theory.proofs.Members.{Has, has-those, has-keep, has-map, member-says}
 use Rattle.program.specs.Tables.{Tables, portCount, output, taskCount, taskPortCount, tpTask, tpPort, driverCount, copyCount, copyDriver, modeCount, invocationWidth, invocationCount, invMode, invFrequency, invTask, updateWidth, updateCount, updMode, updFrequency, switchWidth, switchCount, swMode, swFrequency}
 use Rattle.program.specs.Sets.{isKind, OfKind, sensorRows}
@@ -128,6 +129,13 @@ module _ (T : Tables) where
     pub has-tasks : (Q : ℕ → Type 0)
         → Has Q (dueTasks (mode (programOf T) m) k) ↔ DueRow (invocationCount T) (invMode T) (invFrequency T) m k (λ i. Q (invTask T i))
     has-tasks Q = Iff·trans (has-map Q (λ r. r .task) (dueInvocations (mode (programOf T) m) k)) (has-invocations (λ r. Q (r .task)))
+
+    -- the tasks of a mode that are due, by rows
+    pub due-task-rows : dueTasks (mode (programOf T) m) k ≡ those (rowDue invocationWidth (T .invocations) m (units T m) k) (invTask T) (invocationCount T) 0
+    due-task-rows =
+        ap (λ (M : Mode). dueTasks M k) (mode-row m l)
+        ∙ ap (map (λ (r : Invocation). r .task)) (due-invocations m k)
+        ∙ map-those (λ (r : Invocation). r .task) (rowDue invocationWidth (T .invocations) m (units T m) k) (invocationRow T) (invocationCount T) 0
 
     -- some update of a mode that is due
     pub has-updates : (Q : Update → Type 0)

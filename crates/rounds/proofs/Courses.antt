@@ -3,17 +3,17 @@
 use Prim.Native.Nat.{ℕ, zero, suc, _+_, _<_}
 use mathlib.Core.Path.{_≡_, refl, sym, ap, subst, _∙_}
 use mathlib.Core.Bool.{true, _&&_}
-use mathlib.Core.List.{List, map}
+use mathlib.Core.List.{List}
 use native.Mathlib.Omega.{arith}
 use lib.Dec.{eqb}
 use lib.IntN.{ℤ}
 use lib.ListN.{length}
 use Rattle.theory.specs.Lists.{those, keep, member}
-use Rattle.theory.proofs.Lists.{sum-same, keep-those, map-those, those-same}
+use Rattle.theory.proofs.Lists.{sum-same, keep-those, those-same}
 use Rattle.program.specs.Tables.{Tables, taskCount, taskSupplier, modeCount, invocationWidth, invocationCount, invTask}
 use Rattle.program.specs.Units.{units, rowDue}
-use Rattle.program.specs.Program.{Program, Mode, Invocation, Task, programOf, task, mode, ticksOf, nextOf, nextUnit, invocationRow, dueTasks}
-use Rattle.program.proofs.Decoded.{mode-count, mode-row, task-row, due-invocations}
+use Rattle.program.specs.Program.{Program, Mode, Task, programOf, task, mode, ticksOf, nextOf, nextUnit, dueTasks}
+use Rattle.program.proofs.Decoded.{mode-count, mode-row, task-row, due-task-rows}
 use Rattle.rules.specs.Verdict.{programVerdict}
 use Rattle.rules.proofs.Accepted.{accepted-fields}
 use Rattle.code.specs.Listing.{blockSize, futureAddress}
@@ -38,20 +38,13 @@ module _ (T : Tables) (a : programVerdict T ≡ 0) where
   named-row i l = ap (λ (t : Task). t .supplier) (task-row T (invTask T i) (accepted-fields T a .invocations i l .task))
 
   module _ (s m : ℕ) (l : m < modeCount T) where
-    -- the tasks of the due invocations are those of the mode
-    due-named : (k : ℕ) → dueTasks (mode P m) k ≡ those (rowDue invocationWidth (T .invocations) m (units T m) k) (invTask T) (invocationCount T) 0
-    due-named k =
-        ap (λ (M : Mode). dueTasks M k) (mode-row T m l)
-        ∙ ap (map (λ (r : Invocation). r .task)) (due-invocations T m k)
-        ∙ map-those (λ (r : Invocation). r .task) (rowDue invocationWidth (T .invocations) m (units T m) k) (invocationRow T) (invocationCount T) 0
-
-    -- and of them those of the supplier are the rows that are its own
+    -- of the mode's due tasks those of the supplier are the rows that are its own
     own-rows : (k : ℕ) → ownRows (T .tasks) (T .invocations) s m (units T m) k ≡ ownTasks P s (dueTasks (mode P m) k)
     unfolding ownDue
     own-rows k =
         those-same _ _ (invTask T) (invocationCount T) 0
         (λ i h j. ap (λ (n : ℕ). rowDue invocationWidth (T .invocations) m (units T m) k i && eqb n s) (sym (named-row i (omega arith))))
-        ∙ sym (ap (keep (λ t. eqb (task P t .supplier) s)) (due-named k)
+        ∙ sym (ap (keep (λ t. eqb (task P t .supplier) s)) (due-task-rows T m k l)
         ∙ keep-those (λ t. eqb (task P t .supplier) s) (rowDue invocationWidth (T .invocations) m (units T m) k) (invTask T) (invocationCount T) 0)
 
     -- so a task of the supplier that is due is declared

@@ -2,15 +2,19 @@
 -- Assumes that the verdict on the tables is 0, or that a call that is lent more than the tables is not refused.
 use Prim.Native.Nat.{ℕ, _≤_, _<_}
 use mathlib.Core.Path.{_≡_}
-use mathlib.Core.Bool.{Bool, false}
+use mathlib.Core.Bool.{Bool, true, false}
 use mathlib.Core.List.{List, _∷_, _++_, map}
 use native.Mathlib.Omega.{arith}
+use Rattle.theory.specs.Lists.{member}
 use Rattle.theory.specs.Verdict.{Refusal, within, verdict}
+use Rattle.theory.proofs.Members.{member-says}
 use Rattle.theory.proofs.Verdict.{Clear, verdict-clear, clear-verdict, verdict-both}
 use Rattle.cells.specs.Limits.{maxUnits}
-use Rattle.program.specs.Tables.{Tables, modeCount}
+use Rattle.program.specs.Tables.{Tables, taskCount, modeCount}
 use Rattle.program.specs.Units.{units, Units}
+use Rattle.program.specs.Program.{programOf, mode, dueTasks}
 use Rattle.program.proofs.Units.{units-least}
+use Rattle.program.proofs.Decoded.{has-tasks}
 use Rattle.rules.specs.Shape.{shapeBad, Shaped}
 use Rattle.rules.specs.Fields.{Fields}
 use Rattle.rules.specs.Declared.{TaskPorts, Copies, ModePorts}
@@ -72,6 +76,12 @@ module _ (T : Tables) (a : programVerdict T ≡ 0) where
   -- they are the least common multiple of its frequencies
   pub accepted-least : (m : ℕ) → m < modeCount T → Units T m (units T m)
   accepted-least m l = units-least T m (accepted-units m l)
+
+  -- a task that is due in a declared mode is declared
+  pub due-declared : (m k t : ℕ) → m < modeCount T → member t (dueTasks (mode (programOf T) m) k) ≡ true → t < taskCount T
+  due-declared m k t l e =
+      let w = has-tasks T m k l (λ x. t ≡ x) .0 (member-says t (dueTasks (mode (programOf T) m) k) .yes e) in
+      omega (arith, w .4, accepted-fields .invocations (w .0) (w .1) .task)
 
 -- a call that is lent the tables and more, refuses for its own shape and then as the program's verdict does, and is not refused:
 -- the program is accepted

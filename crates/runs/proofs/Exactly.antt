@@ -13,7 +13,7 @@ use Rattle.runs.proofs.First.{judge-exactly}
 
 -- where the worst-case run is good, every fair run is
 pub worst-decides : (C : Course) (left : List ℕ) → Good C (worstCase C) left → (c : Choice) → Fair C c → Good C c left
-worst-decides C left g c f = good-shorter C c (worstCase C) (λ k j m. f k j m .1) left left (omega arith) (λ j. omega arith) g
+worst-decides C left g c f = good-shorter C c (worstCase C) (λ k j m. f k j m .1) left left (omega arith) (λ j w. omega arith) g
 
 -- every released job takes at least one tick
 abbrev pub SomeTime : Course → Type 0

@@ -12,9 +12,9 @@ use lib.Dec.{leb}
 use borrow.Author.Tests.{leb-true, leb-false}
 use Rattle.theory.specs.Lists.{member}
 use Rattle.theory.proofs.Bools.{clash}
+use Rattle.theory.proofs.Members.{some-one, none-of}
 use Rattle.runs.specs.Tick.{leftOf, runs, Place, doing}
 use Rattle.runs.specs.Round.{Course, Choice, begin, going, before, alone, Good, Break, none, outside, late, Ticked, ended, left-at, watched, unfinished, judge, OutsideAt, LateAt, FirstBreak}
-use Rattle.runs.proofs.Members.{some-one, none-of}
 use Rattle.runs.proofs.Ticks.{In, Comes, ticks-come}
 
 -- the end of a unit is no later than the start of a later one

@@ -1,7 +1,7 @@
 -- The laws of runs: a shorter run is dominated, the worst case decides, the judge gives the first break, windows; and the code's
 -- walk over blocks, rows, windows and ticks.
 pub mod Tick
-pub mod Members
+pub mod Released
 pub mod Dominated
 pub mod Ticks
 pub mod First

@@ -6,8 +6,8 @@ use mathlib.Core.Bool.{true, false}
 use mathlib.Core.List.{List, [], _∷_}
 use lib.ListN.{set}
 use Rattle.theory.specs.Lists.{member}
+use Rattle.theory.proofs.Members.{member-head, member-tail}
 use Rattle.runs.specs.Round.{Course, Choice, release, outside, late, ended, left-at, watched, unfinished, judge}
-use Rattle.runs.proofs.Members.{member-head, member-tail}
 
 -- a release uses the times of its jobs alone
 release-same : (js : List ℕ) (c d : ℕ → ℕ) → ((j : ℕ) → member j js ≡ true → c j ≡ d j) → (left : List ℕ) → release js c left ≡ release js d left

@@ -2,23 +2,23 @@
 -- is declared and takes time. Assumes that the verdict on the part is 0; of `windows-accepted` and `part-after`, that the windows
 -- verdict is; of `own-declared`, that the program is accepted; of what has its shape, that number 1 does not apply.
 use Prim.Native.Nat.{ℕ, _<_}
-use mathlib.Core.Path.{_≡_}
+use mathlib.Core.Path.{_≡_, sym, _∙_}
 use mathlib.Core.Bool.{true, false, _||_}
 use mathlib.Core.List.{List, [], _∷_, _++_, map}
 use native.Mathlib.Omega.{arith}
 use lib.Dec.{eqb}
 use Rattle.theory.specs.Lists.{member}
 use Rattle.theory.specs.Verdict.{Refusal, orElse, within}
-use Rattle.theory.proofs.Bools.{neither}
+use Rattle.theory.proofs.Bools.{neither, says-itself, _and_}
 use Rattle.theory.proofs.Verdict.{verdict-clear, verdict-skip}
-use Rattle.theory.proofs.Members.{Has, has-as, has-keep, member-says}
+use Rattle.theory.proofs.Members.{member-keep}
 use Rattle.cells.specs.Limits.{maxWindows, maxPart}
 use Rattle.program.specs.Tables.{Tables, modeCount, taskCount}
-use Rattle.program.specs.Program.{Program, programOf, task, mode, dueTasks}
-use Rattle.program.proofs.Decoded.{task-row, has-tasks}
+use Rattle.program.specs.Program.{programOf, task, mode, dueTasks}
+use Rattle.program.proofs.Decoded.{task-row}
 use Rattle.rules.specs.Shape.{badSlice, shapeBad}
 use Rattle.rules.specs.Verdict.{tableRefusals, programVerdict}
-use Rattle.rules.proofs.Accepted.{accepted-fields, lent-accepted}
+use Rattle.rules.proofs.Accepted.{accepted-fields, due-declared, lent-accepted}
 use Rattle.code.specs.Compile.{longRefusal}
 use Rattle.runs.specs.Windows.{windowWidth}
 use Rattle.runs.specs.Schedule.{scheduleWidth}
@@ -61,16 +61,9 @@ part-after L e =
 pub own-declared : (T : Tables) → programVerdict T ≡ 0 → (s m k j : ℕ) → m < modeCount T
     → member j (ownTasks (programOf T) s (dueTasks (mode (programOf T) m) k)) ≡ true → j < taskCount T
 own-declared T v s m k j l r =
-    let h : Has (λ x. j ≡ x) (ownTasks P s due) = member-says j (ownTasks P s due) .yes r in
-    let w = has-tasks T m k l (λ x. j ≡ x) .0
-    (has-as (λ x. (eqb (task P x .supplier) s ≡ true) × (j ≡ x)) (λ x. j ≡ x) due (λ x q. q .1) (has-keep (λ x. j ≡ x) (λ x. eqb (task P x .supplier) s) due .0 h)) in
-    omega (arith, w .4, accepted-fields T v .invocations (w .0) (w .1) .task)
-  where
-    P : Program
-    P = programOf T
-
-    due : List ℕ
-    due = dueTasks (mode (programOf T) m) k
+    due-declared T v m k j l
+    ((says-itself (eqb (task (programOf T) j .supplier) s) and says-itself (member j (dueTasks (mode (programOf T) m) k))) .yes
+    (sym (member-keep (λ t. eqb (task (programOf T) t .supplier) s) j (dueTasks (mode (programOf T) m) k)) ∙ r) .1)
 
 module _ (L : Asked) (a : partVerdict L ≡ 0) where
   -- the program is accepted

@@ -1,7 +1,10 @@
--- Numbers 12 and 13 are exact: each test bars its claim, and the table of delays says those of the listing.
+-- Numbers 12 and 13 are exact: each test bars its claim, and the table of delays says those of the listing. Parts that pass, joined, pass.
 -- The answer over the modes is that of the first whose run breaks.
 pub mod Windows
 pub mod Schedule
+pub mod Dispatched
+pub mod Appended
+pub mod Joining
 pub mod Delays
 pub mod Modes
 pub mod Accepted

@@ -1,14 +1,14 @@
 -- The laws of sums and pieces over the numbers below a bound, and of rows that pass a test.
 -- Assumes nothing.
 use Prim.Native.Nat.{ℕ, zero, suc, _+_, _-_, _*_, _≤_, _<_}
-use mathlib.Core.Path.{_≡_, refl, ap, sym, _∙_}
+use mathlib.Core.Path.{_≡_, refl, ap, ap₂, sym, _∙_}
 use mathlib.Core.Bool.{Bool, true, false, _&&_}
 use mathlib.Core.List.{List, [], _∷_, _++_, map}
 use native.Mathlib.Nat.{add-zero, zero-add, add-suc, suc-mul, zero-mul}
 use native.Mathlib.Omega.{arith}
 use native.Mathlib.Decide.{decLt}
 use lib.ListN.{length, getD, length-append, length-map}
-use Rattle.theory.specs.Lists.{those, each, keep, Every, cat, sum}
+use Rattle.theory.specs.Lists.{those, each, keep, gather, Every, cat, sum}
 
 -- a test that passes counts one
 abbrev pub bit : Bool → ℕ
@@ -140,18 +140,29 @@ module _ {A : Type 0} where
       go true h = omega arith
       go false h = omega arith
 
-  -- tests that agree on the rows pass the same
+  -- as many rows from another place on: the same pass where the tests and the rows agree
+  pub those-moved : (p q : ℕ → Bool) (row other : ℕ → A) (n i j : ℕ)
+      → ((k : ℕ) → k < n → (p (i + k) ≡ q (j + k)) × (row (i + k) ≡ other (j + k))) → those p row n i ≡ those q other n j
+  those-moved p q row other zero i j h = refl
+  those-moved p q row other (suc n) i j h =
+      let x : i + 0 ≡ i = omega arith in
+      let y : j + 0 ≡ j = omega arith in
+      let a : p i ≡ q j = ap p (sym x) ∙ h 0 (omega arith) .0 ∙ ap q y in
+      let b : row i ≡ other j = ap row (sym x) ∙ h 0 (omega arith) .1 ∙ ap other y in
+      let r = those-moved p q row other n (i + 1) (j + 1) (λ k l. later k (h (suc k) (omega arith))) in
+      λ t. elim (a t) [ true ↦ b t ∷ r t | false ↦ r t ]
+    where
+      later : (k : ℕ) → (p (i + suc k) ≡ q (j + suc k)) × (row (i + suc k) ≡ other (j + suc k))
+          → (p (i + 1 + k) ≡ q (j + 1 + k)) × (row (i + 1 + k) ≡ other (j + 1 + k))
+      later k w =
+          let x : i + 1 + k ≡ i + suc k = omega arith in
+          let y : j + suc k ≡ j + 1 + k = omega arith in
+          (ap p x ∙ w .0 ∙ ap q y, ap row x ∙ w .1 ∙ ap other y)
+
+  -- tests that agree on the rows let the same pass
   pub those-same : (p q : ℕ → Bool) (row : ℕ → A) (n i₀ : ℕ)
       → ((i : ℕ) → i₀ ≤ i → i < i₀ + n → p i ≡ q i) → those p row n i₀ ≡ those q row n i₀
-  those-same p q row zero i₀ h = refl
-  those-same p q row (suc n) i₀ h =
-      rw (h i₀ (omega arith) (omega arith), those) (go (q i₀) (those-same p q row n (i₀ + 1) (λ i l u. h i (omega arith) (omega arith))))
-    where
-      go : (b : Bool) → those p row n (i₀ + 1) ≡ those q row n (i₀ + 1)
-          → _≡_ {A = List A} (elim b [ true ↦ row i₀ ∷ those p row n (i₀ + 1) | false ↦ those p row n (i₀ + 1) ])
-          (elim b [ true ↦ row i₀ ∷ those q row n (i₀ + 1) | false ↦ those q row n (i₀ + 1) ])
-      go true e = ap (λ (l : List A). row i₀ ∷ l) e
-      go false e = e
+  those-same p q row n i₀ h = those-moved p q row row n i₀ i₀ (λ k l. (h (i₀ + k) (omega arith) (omega arith), refl))
 
   -- those that pass one test, and of them those whose row passes another, pass both
   pub keep-those : (f : A → Bool) (p : ℕ → Bool) (row : ℕ → A) (n i : ℕ)
@@ -274,3 +285,18 @@ each-same {A} f g (suc n) i j h =
         let x : i + suc k ≡ i + 1 + k = omega arith in
         let y : j + suc k ≡ j + 1 + k = omega arith in
         ap f (sym x) ∙ h (suc k) (omega arith) ∙ ap g y
+
+-- the same images of all
+pub map-same : {A B : Type 0} (f g : A → B) (xs : List A) → Every (λ x. f x ≡ g x) xs → map f xs ≡ map g xs
+map-same f g [] h = refl
+map-same f g (x ∷ xs) h = ap₂ _∷_ (h .0) (map-same f g xs (h .1))
+
+-- the same lists of all, one after the other
+pub gather-same : {A B : Type 0} (f g : A → List B) (xs : List A) → Every (λ x. f x ≡ g x) xs → gather f xs ≡ gather g xs
+gather-same f g [] h = refl
+gather-same f g (x ∷ xs) h = ap₂ _++_ (h .0) (gather-same f g xs (h .1))
+
+-- of all pieces, from what holds of each
+pub every-gather : {A B : Type 0} (P : B → Type 0) (f : A → List B) (xs : List A) → ((x : A) → Every P (f x)) → Every P (gather f xs)
+every-gather P f [] h = tt
+every-gather P f (x ∷ xs) h = every-append P (f x) (gather f xs) (h x) (every-gather P f xs h)

@@ -1,15 +1,19 @@
--- Some element of a list has a property: what that means of images, kept elements, joined lists and rows that pass a test.
+-- Some element of a list has a property: what that means of images, kept elements, joined lists and rows that pass a test; and members
+-- of a list of numbers.
 -- Assumes nothing.
 use Prim.Native.Nat.{ℕ, zero, suc, _+_, _≤_, _<_}
-use mathlib.Core.Path.{_≡_, refl, sym, subst}
-use mathlib.Core.Bool.{Bool, true, false}
+use mathlib.Core.Path.{_≡_, refl, sym, ap, subst, _∙_}
+use mathlib.Core.Bool.{Bool, true, false, _&&_, _||_}
 use mathlib.Core.List.{List, [], _∷_, _++_, map}
 use mathlib.Core.Logic.{_⊎_, inl, inr, ⊎-elim, _↔_}
 use native.Mathlib.Omega.{arith}
 use native.Mathlib.Decide.{ℕ-discrete}
+use lib.Dec.{eqb}
+use borrow.Author.Tests.{eqb-true, eq-eqb}
 use Rattle.theory.specs.Claim.{Says}
-use Rattle.theory.specs.Lists.{those, keep, gather, member}
+use Rattle.theory.specs.Lists.{those, keep, gather, some, Every, member}
 use Rattle.theory.proofs.Bools.{clash, says-or, says-eq}
+use Rattle.theory.proofs.Lists.{keep-all}
 
 module _ {A : Type 0} where
   -- some element has Q
@@ -107,3 +111,65 @@ module _ {A B : Type 0} where
 pub member-says : (n : ℕ) (xs : List ℕ) → Says (member n xs) (Has (λ x. n ≡ x) xs)
 member-says n [] = record { yes = λ e. clash {b = false} e refl; no = λ e h. h }
 member-says n (x ∷ xs) = says-or (says-eq n x) (member-says n xs)
+
+-- the first is a member
+pub member-head : (j : ℕ) (js : List ℕ) → member j (j ∷ js) ≡ true
+member-head j js = rw (eq-eqb j j refl)
+
+-- a member of the rest is a member
+pub member-tail : (j i : ℕ) (js : List ℕ) → member j js ≡ true → member j (i ∷ js) ≡ true
+member-tail j i js h = go (eqb j i)
+  where
+    go : (b : Bool) → (b || member j js) ≡ true
+    go true = refl
+    go false = h
+
+-- some of them passes: this one
+pub some-one : (p : ℕ → Bool) (js : List ℕ) → some p js ≡ true → (j : ℕ) × (member j js ≡ true) × (p j ≡ true)
+some-one p [] h = clash {b = false} h refl
+some-one p (i ∷ js) h = go (p i) refl h (some-one p js)
+  where
+    go : (b : Bool) → p i ≡ b → (b || some p js) ≡ true
+        → (some p js ≡ true → (j : ℕ) × (member j js ≡ true) × (p j ≡ true)) → (j : ℕ) × (member j (i ∷ js) ≡ true) × (p j ≡ true)
+    go true e h r = (i, member-head i js, e)
+    go false e h r = let w = r h in (w .0, member-tail (w .0) i js (w .1), w .2)
+
+-- none of them passes: no member does
+pub none-of : (p : ℕ → Bool) (js : List ℕ) → some p js ≡ false → (j : ℕ) → member j js ≡ true → p j ≡ false
+none-of p [] h j m = clash {b = false} m refl
+none-of p (i ∷ js) h j m = go (p i) refl (eqb j i) refl h m (none-of p js)
+  where
+    go : (a : Bool) → p i ≡ a → (b : Bool) → eqb j i ≡ b → (a || some p js) ≡ false → (b || member j js) ≡ true
+        → (some p js ≡ false → (j : ℕ) → member j js ≡ true → p j ≡ false) → p j ≡ false
+    go true e b d h m r = clash {b = true} refl h
+    go false e true d h m r = rw (eqb-true j i d) e
+    go false e false d h m r = r h j m
+
+-- what holds of each member holds of all
+pub every-member : (Q : ℕ → Type 0) (xs : List ℕ) → ((x : ℕ) → member x xs ≡ true → Q x) → Every Q xs
+every-member Q [] h = tt
+every-member Q (x ∷ xs) h = (h x (member-head x xs), every-member Q xs (λ y m. h y (member-tail y x xs m)))
+
+-- where every member passes, all are kept
+pub keep-members : (p : ℕ → Bool) (xs : List ℕ) → ((x : ℕ) → member x xs ≡ true → p x ≡ true) → keep p xs ≡ xs
+keep-members p xs h = keep-all p xs (every-member (λ x. p x ≡ true) xs h)
+
+-- a member of those kept is a member that passes
+pub member-keep : (p : ℕ → Bool) (t : ℕ) (xs : List ℕ) → member t (keep p xs) ≡ (p t && member t xs)
+member-keep p t [] = none (p t)
+  where
+    none : (b : Bool) → false ≡ (b && false)
+    none true = refl
+    none false = refl
+member-keep p t (x ∷ xs) = go (p x) refl (eqb t x) refl (member-keep p t xs)
+  where
+    same : (a : Bool) → p x ≡ a → eqb t x ≡ true → p t ≡ a
+    same a e q = subst (λ (y : ℕ). p y ≡ a) (sym (eqb-true t x q)) e
+
+    go : (a : Bool) → p x ≡ a → (b : Bool) → eqb t x ≡ b → member t (keep p xs) ≡ (p t && member t xs)
+        → member t (elim a [ true ↦ x ∷ keep p xs | false ↦ keep p xs ]) ≡ (p t && (b || member t xs))
+    go true e true q h = rw (q, same true e q)
+    go true e false q h = rw q h
+    go false e true q h =
+        let z = same false e q in h ∙ ap (λ (b : Bool). b && member t xs) z ∙ sym (ap (λ (b : Bool). b && true) z)
+    go false e false q h = h

@@ -2,15 +2,15 @@
 -- So a list of assignments makes what a claim of writes says, where each place has one value and lies inside (`Assigns`).
 -- Assumes nothing else.
 use Prim.Native.Nat.{ℕ, _<_}
-use mathlib.Core.Path.{_≡_, refl, sym, _∙_}
-use mathlib.Core.List.{List, [], _∷_}
+use mathlib.Core.Path.{_≡_, refl, sym, ap, _∙_}
+use mathlib.Core.List.{List, [], _∷_, _++_}
 use mathlib.Core.Logic.{inl, inr, _↔_}
 use native.Mathlib.Omega.{arith}
 use native.Mathlib.Decide.{ℕ-discrete}
 use lib.IntN.{ℤ}
 use lib.ListN.{length, getD, set, length-set}
-use lib.Seq.{getD-set-same, getD-set-other}
-use Rattle.theory.specs.Lists.{Put, puts}
+use lib.Seq.{getD-set-same, getD-set-other, set-getD}
+use Rattle.theory.specs.Lists.{Every, Put, puts}
 use Rattle.theory.proofs.Members.{Has}
 
 -- one of the assignments gives place p the value x
@@ -22,6 +22,11 @@ pub puts-length : (l : List Put) (v : List ℤ) → length (puts l v) ≡ length
 puts-length [] v = refl
 puts-length (a ∷ l) v = puts-length l (set v (a .place) (a .value)) ∙ length-set v (a .place) (a .value)
 
+-- the assignments of two lists are those of the one and then those of the other
+pub puts-append : (a b : List Put) (v : List ℤ) → puts (a ++ b) v ≡ puts b (puts a v)
+puts-append [] b v = refl
+puts-append (x ∷ a) b v = puts-append a b (set v (x .place) (x .value))
+
 -- what a claim of writes has to be for a list of assignments to make it, among n places
 pub record Assigns (Writes : ℕ → ℤ → Type 0) (l : List Put) (n : ℕ) : Type 0 where
   pub wrote : (p : ℕ) (x : ℤ) → Wrote l p x ↔ Writes p x
@@ -30,6 +35,11 @@ pub record Assigns (Writes : ℕ → ℤ → Type 0) (l : List Put) (n : ℕ) : 
 
 -- d is what stands past the end
 module _ (d : ℤ) where
+  -- places that take the values that they have
+  pub puts-own : (l : List Put) (v : List ℤ) → Every (λ a. a .value ≡ getD v (a .place) d) l → puts l v ≡ v
+  puts-own [] v h = refl
+  puts-own (a ∷ l) v h = ap (puts l) (ap (set v (a .place)) (h .0) ∙ set-getD v (a .place) d) ∙ puts-own l v (h .1)
+
   -- one assignment: its value at its place
   set-at : (a : Put) (v : List ℤ) (p : ℕ) (x : ℤ) → p < length v → a .place ≡ p → x ≡ a .value → getD (set v (a .place) (a .value)) p d ≡ x
   set-at a v p x b e f = rw (← e) (getD-set-same v (a .place) (a .value) d (omega arith) ∙ sym f)

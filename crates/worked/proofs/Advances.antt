@@ -1,35 +1,34 @@
--- F's first advance meets the premises of what is said of advances, accepted and refused, and of straight-line code. Assumes nothing.
+-- F's first advance meets the premises of what is said of advances, accepted and refused with 17, and one of the monitor's with 18.
+-- Assumes nothing.
 use Prim.Native.Nat.{_<_, _+_, _/_, _%_, _^_}
 use mathlib.Core.Path.{_≡_, refl}
 use mathlib.Core.Bool.{false}
-use mathlib.Core.List.{List, [], _∷_, map}
+use mathlib.Core.List.{[], _∷_}
 use mathlib.Core.Logic.{_⊎_}
 use native.Mathlib.Omega.{arith}
-use lib.ListN.{length, take, drop, replicate}
+use lib.ListN.{length, replicate}
 use Rattle.cells.specs.Limits.{wordsEach}
 use Rattle.program.specs.Tables.{taskCount}
 use Rattle.program.specs.Program.{programOf}
 use Rattle.code.specs.Op.{instructions}
-use Rattle.code.specs.Compile.{listingOf}
-use Rattle.code.proofs.At as place
 use Rattle.suppliers.specs.Schedule.{joinedBad}
 use Rattle.suppliers.proofs.Schedule.{joined-bars}
 use Rattle.machine.specs.declared.State.{State}
-use Rattle.machine.specs.Instant.{startAt, Goes, Ends}
+use Rattle.machine.specs.Instant.{startAt, Ends}
 use Rattle.machine.specs.Change.{withLeft}
 use Rattle.machine.specs.Advance.{Advance, freshAnswer, advanceVerdict, advanceAnswer}
-use Rattle.machine.specs.Schedules.{one, running}
-use Rattle.machine.specs.Stops.{InstantStops, TickStops}
+use Rattle.machine.specs.Schedules.{one, running, Collision}
+use Rattle.machine.specs.Stops.{InstantStops, BeforeTick, TickStops}
 use Rattle.machine.specs.Moves.{Advances}
-use Rattle.machine.specs.Straight.{Straight, calls, opOf, effects, AllPassing}
-use Rattle.machine.proofs.Stretch.{straight}
 use Rattle.machine.proofs.Declared.{running-declared}
+use Rattle.demands.specs.Machine.{Overruns}
 use Rattle.demands.specs.Composed.{joined, code}
 use Rattle.demands.specs.Supplied.{lentTo}
 use Rattle.demands.proofs.Machine.{run-exact, advance-moves, time-moves, instant-counted}
+use Rattle.demands.proofs.Overrun.{overrun-exact, collision-exact}
 use Rattle.worked.specs.Computed.{computed}
-use Rattle.worked.specs.Programs.{F}
-use Rattle.worked.specs.Systems.{F-system, mix, readings, times}
+use Rattle.worked.specs.Programs.{numbers, F}
+use Rattle.worked.specs.Systems.{F-system, monitor, monitor-system, mix, readings, times}
 
 -- from a fresh state, with the longest execution times
 abbrev begun : State
@@ -73,6 +72,40 @@ late-refused = refl
 pub F-late : InstantStops late 17 ⊎ TickStops late 17
 F-late = run-exact late late-runs 17 (omega arith) .0 late-refused
 
+pub F-overruns : Overruns late
+F-overruns = overrun-exact late late-runs .0 late-refused
+
+-- the monitor in its first unit, tasks of both suppliers with time left, and both suppliers' blocks there dispatch them: 18
+abbrev both : Advance
+both = record {
+  tables = monitor 2;
+  code = code monitor-system;
+  schedule = numbers (0 ∷ 7 ∷ 0 ∷ 0 ∷ 2 ∷ 1 ∷ 7 ∷ 0 ∷ 1 ∷ 2 ∷ []);
+  state = record {
+    ports = begun .ports;
+    outputs = begun .outputs;
+    time = 0;
+    pending = 9;
+    current = 7;
+    elapsed = 0;
+    remaining = 2;
+    left = 1 ∷ 1 ∷ replicate 30 0;
+    positions = replicate 8 0;
+  };
+  lent = first .lent;
+}
+
+both-run : advanceVerdict both ≡ 0
+unfolding computed
+both-run = refl
+
+both-refused : advanceAnswer both .number ≡ 18
+unfolding computed
+both-refused = refl
+
+pub monitor-collides : (u : State) × BeforeTick both u × Collision (both .schedule) u
+monitor-collides = collision-exact both both-run .0 both-refused
+
 pub F-advances : Advances first (advanceAnswer first .state)
 F-advances = advance-moves first accepted
 
@@ -95,27 +128,3 @@ one-runs = refl
 pub F-declared : 1 < taskCount (F 6 2)
 F-declared =
     running-declared (F 6 2) (joined F-system) (advanceAnswer first .state) 1 (joined-bars (F 6 2) (joined F-system) .ok rows-right .rows) one-runs
-
--- the block at address 1, up to its sensor: two output copies, an update and a reading
-abbrev head : List Straight
-head = calls 1000 ∷ calls 1001 ∷ calls 2 ∷ calls 2000 ∷ []
-
-stands : place.At (listingOf (F 6 2)) 1 (map opOf head)
-unfolding computed
-stands = record { pre = take 1 (listingOf (F 6 2)); post = drop 5 (listingOf (F 6 2)); cut = refl; from = refl }
-
-none-refused : AllPassing (programOf (F 6 2)) (first .lent .readings) (first .lent .times) head begun
-unfolding computed
-none-refused = (
-  record { names = refl; time = refl; ended = refl },
-  (
-    record { names = refl; time = refl; ended = refl },
-    (record { names = refl; time = refl; ended = refl }, (record { names = refl; time = refl; ended = refl }, tt)),
-  ),
-)
-
--- four instructions lead from there to the fold of their effects
-pub F-stretch : Goes (programOf (F 6 2)) (first .lent .readings) (first .lent .times) (listingOf (F 6 2)) 4
-    (record { address = 1; planned = false; state = begun })
-    (record { address = 5; planned = false; state = effects (programOf (F 6 2)) (first .lent .readings) (first .lent .times) head begun })
-F-stretch = straight (programOf (F 6 2)) (first .lent .readings) (first .lent .times) (listingOf (F 6 2)) head 1 false begun stands none-refused

@@ -1,7 +1,8 @@
--- Document 01's worked table.
+-- Document 01's worked table; systems that run; and programs that meet the premises of the theorems.
 pub mod Table
 pub mod Runs
 pub mod Instances
 pub mod Listings
 pub mod Walk
 pub mod Advances
+pub mod Composed

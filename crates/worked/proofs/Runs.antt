@@ -8,8 +8,8 @@ use native.Mathlib.Omega.{arith}
 use lib.IntN.{pos}
 use Rattle.cells.specs.Limits.{suppliers}
 use Rattle.program.specs.Program.{programOf}
-use Rattle.giotto.specs.Execution.{execution}
 use Rattle.suppliers.specs.Supplier.{supplierVerdict}
+use Rattle.giotto.specs.Execution.{execution}
 use Rattle.demands.specs.Composed.{Accepted}
 use Rattle.worked.specs.Computed.{computed}
 use Rattle.worked.specs.Systems.{F-system, monitor-system, mix, readings, gaps, times, runsAsGiotto}
@@ -50,10 +50,10 @@ unfolding computed
 monitor-returns = refl
 
 -- both systems are accepted: program and windows, and each supplier's code alone
-F-accepted : Accepted F-system
+pub F-accepted : Accepted F-system
 unfolding computed
-F-accepted = record { windows = refl; suppliers = below-eight (λ s. supplierVerdict (record { tables = F-system .tables; windows = F-system .windows; part = F-system .parts s; supplier = pos s }) .number ≡ 0) refl refl refl refl refl refl refl refl }
+F-accepted = record { windows = refl; compiled = refl; suppliers = below-eight (λ s. supplierVerdict (record { tables = F-system .tables; windows = F-system .windows; part = F-system .parts s; supplier = pos s }) .number ≡ 0) refl refl refl refl refl refl refl refl }
 
-monitor-accepted : Accepted monitor-system
+pub monitor-accepted : Accepted monitor-system
 unfolding computed
-monitor-accepted = record { windows = refl; suppliers = below-eight (λ s. supplierVerdict (record { tables = monitor-system .tables; windows = monitor-system .windows; part = monitor-system .parts s; supplier = pos s }) .number ≡ 0) refl refl refl refl refl refl refl refl }
+monitor-accepted = record { windows = refl; compiled = refl; suppliers = below-eight (λ s. supplierVerdict (record { tables = monitor-system .tables; windows = monitor-system .windows; part = monitor-system .parts s; supplier = pos s }) .number ≡ 0) refl refl refl refl refl refl refl refl }

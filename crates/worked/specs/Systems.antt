@@ -7,6 +7,7 @@ use lib.Dec.{eqb}
 use lib.IntN.{ℤ, pos, natAbs}
 use lib.ListN.{replicate}
 use Rattle.cells.specs.Cell.{eqZ}
+use Rattle.cells.specs.Limits.{wordsEach}
 use Rattle.cells.specs.Reading.{noReading}
 use Rattle.program.specs.Tables.{Tables, tables, sensor, actuator, input, output}
 use Rattle.program.specs.Program.{programOf}
@@ -24,8 +25,12 @@ partsOf one other zero = one
 partsOf one other (suc zero) = other
 partsOf one other (suc (suc s)) = []
 
+-- room for 64 instructions
+abbrev pub room : List ℕ
+room = replicate (wordsEach * 64) 0
+
 abbrev pub F-system : System
-F-system = record { tables = F 6 2; windows = window 0 10; parts = partsOf (schedule 1 0) [] }
+F-system = record { tables = F 6 2; windows = window 0 10; parts = partsOf (schedule 1 0) []; slice = room }
 
 -- The monitor. Ports: 0 the measured resistance, 1 the relay, 2 and 3 the tasks' inputs, 4 their output.
 -- Mode 0, period 4: task 0 of supplier 0, twice; a missing reading switches to mode 1.
@@ -54,6 +59,7 @@ monitor-system = record {
   tables = monitor 2;
   windows = monitorWindows 2;
   parts = partsOf (numbers (0 ∷ 7 ∷ 0 ∷ 0 ∷ 2 ∷ 0 ∷ 15 ∷ 0 ∷ 0 ∷ 2 ∷ [])) (numbers (1 ∷ 23 ∷ 0 ∷ 1 ∷ 2 ∷ []));
+  slice = room;
 }
 
 -- a task function that tells tasks, ports and inputs apart

@@ -1,0 +1,35 @@
+-- The outputs of due tasks at an instant: copying local outputs is writing what the tasks give, where they hold it, and changes nothing
+-- where they are the ports' own values. Assumes nothing else.
+use Prim.Native.Nat.{ℕ}
+use mathlib.Core.Path.{_≡_, refl, ap}
+use mathlib.Core.Bool.{true}
+use mathlib.Core.List.{List}
+use lib.IntN.{ℤ, pos}
+use Rattle.theory.specs.Lists.{Every, gather, member, Put, puts}
+use Rattle.theory.proofs.Lists.{every-all, every-image, map-same, gather-same, every-gather}
+use Rattle.theory.proofs.Members.{every-member}
+use Rattle.theory.proofs.Puts.{puts-own}
+use Rattle.program.specs.Program.{Program, task}
+use Rattle.program.specs.Ports.{valueOf, takes}
+
+module _ (P : Program) (ts : List ℕ) (v : List ℤ) where
+  -- outputs that take their own values
+  pub copied-same : puts (gather (λ t. takes (valueOf v) (task P t .outputs)) ts) v ≡ v
+  copied-same =
+      puts-own (pos 0) (gather (λ t. takes (valueOf v) (task P t .outputs)) ts) v
+      (every-gather (λ (a : Put). a .value ≡ valueOf v (a .place)) (λ t. takes (valueOf v) (task P t .outputs)) ts own)
+    where
+      own : (t : ℕ) → Every (λ (a : Put). a .value ≡ valueOf v (a .place)) (takes (valueOf v) (task P t .outputs))
+      own t =
+          every-image (λ (a : Put). a .value ≡ valueOf v (a .place)) (λ p. record { place = p; value = valueOf v p }) (task P t .outputs)
+          (every-all (λ p. valueOf v p ≡ valueOf v p) (task P t .outputs) (λ p. refl))
+
+  -- outputs that take what their tasks give
+  pub copied-held : (value : ℕ → ℤ) (result : ℕ → ℕ → ℤ)
+      → ((t p : ℕ) → member t ts ≡ true → member p (task P t .outputs) ≡ true → value p ≡ result t p)
+      → puts (gather (λ t. takes value (task P t .outputs)) ts) v ≡ puts (gather (λ t. takes (result t) (task P t .outputs)) ts) v
+  copied-held value result h =
+      ap (λ (l : List Put). puts l v)
+      (gather-same _ _ ts (every-member _ ts (λ t m.
+      map-same _ _ (task P t .outputs)
+      (every-member _ (task P t .outputs) (λ p q. ap (λ (x : ℤ). record { place = p; value = x }) (h t p m q))))))

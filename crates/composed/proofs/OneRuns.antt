@@ -1,0 +1,57 @@
+-- No two suppliers run in one tick: who runs, runs in one of its windows, since its worst-case run alone runs too.
+-- Assumes that the system is sound, that a unit goes on, and that a tick of it remains.
+use Prim.Native.Nat.{ℕ, _+_, _*_, _≤_, _<_}
+use mathlib.Core.Path.{_≡_, subst}
+use mathlib.Core.Bool.{true}
+use mathlib.Core.List.{List}
+use native.Mathlib.Omega.{arith}
+use lib.IntN.{ℤ}
+use Rattle.cells.specs.Limits.{suppliers}
+use Rattle.program.specs.Tables.{Tables}
+use Rattle.program.specs.Program.{Program, programOf, mode, ticksOf}
+use Rattle.runs.specs.Tick.{runs, doing}
+use Rattle.runs.specs.Windows.{inWindow}
+use Rattle.runs.specs.Schedule.{blockOf}
+use Rattle.runs.proofs.Tick.{tick-runs}
+use Rattle.suppliers.proofs.Windows.{windows-one}
+use Rattle.suppliers.proofs.Dispatched.{own-rows}
+use Rattle.giotto.specs.Instant.{Configuration, Function}
+use Rattle.machine.specs.declared.State.{State}
+use Rattle.machine.specs.Schedules.{several, placeOf, actOf, running}
+use Rattle.machine.proofs.Collide.{collides}
+use Rattle.composed.specs.Sound.{Sound}
+use Rattle.composed.specs.Related.{OwnedBy, worstRun, Going}
+
+module _ (T : Tables) (W S : List ℤ) (F : Function) (sound : Sound T W S) (k n : ℕ) (C : Configuration) (u : State)
+    (h : Going T W S F k n C u) (more : 1 ≤ u .remaining) where
+  abbrev P : Program
+  P = programOf T
+
+  -- the tick of the round
+  now : ℕ
+  now = k * ticksOf (mode P (C .mode)) + u .elapsed
+
+  -- who runs, runs in its window
+  inside : (j : ℕ) → j < suppliers → runs (actOf S u j) ≡ true → inWindow W j (C .mode) now ≡ true
+  unfolding now
+  inside j l r =
+      let d = worstRun T W S F j (C .mode) k (u .elapsed) in
+      let e = tick-runs (OwnedBy P j) (blockOf S j (u .current)) (u .elapsed) (placeOf S u j) d
+      (own-rows T S (sound .joined .rows) j (u .current)) (h .ahead j l) r in
+      sound .good j (C .mode) l (h .declared) .inside k (u .elapsed) (h .in-round) (omega (arith, h .ticks))
+      (subst (λ (a : ℕ). runs (doing (blockOf S j a) (u .elapsed) d) ≡ true) (h .current) e)
+
+  -- two that run are one
+  pub one-runs : (i j : ℕ) → i < suppliers → j < suppliers → runs (actOf S u i) ≡ true → runs (actOf S u j) ≡ true → i ≡ j
+  one-runs i j p q x y =
+      windows-one (record { tables = T; windows = W }) (sound .windows) i j (C .mode) now (inside i p x) (inside j q y)
+
+  -- so there are not several
+  pub not-several : running S u ≡ several → ⊥
+  not-several e =
+      let c = collides S u .0 e in
+      omega (
+        arith,
+        c .apart,
+        one-runs (c .one-supplier) (c .other-supplier) (omega (arith, c .apart, c .in-range)) (c .in-range) (c .one-runs) (c .other-runs),
+      )

@@ -1,0 +1,97 @@
+-- The composed run is Giotto's: the relation holds in the fresh state, every fair tick is accepted and keeps it, and it has the ports equal.
+-- Assumes nothing: the statement's premises are that the system is accepted and that the ticks are fair.
+use Prim.Native.Nat.{ℕ, zero, suc, _≤_, _<_}
+use mathlib.Core.Path.{_≡_, refl, sym, ap, subst, _∙_}
+use mathlib.Core.List.{List}
+use mathlib.Core.Logic.{inl, inr}
+use native.Mathlib.Omega.{arith}
+use lib.IntN.{pos}
+use lib.ListN.{replicate}
+use Rattle.cells.specs.Limits.{maxPorts}
+use Rattle.program.specs.Tables.{Tables}
+use Rattle.program.specs.Program.{programOf}
+use Rattle.rules.specs.Verdict.{programVerdict}
+use Rattle.code.specs.Op.{emit}
+use Rattle.code.specs.Compile.{listingOf}
+use Rattle.giotto.specs.Instant.{Configuration, Function}
+use Rattle.giotto.specs.Execution.{pass, portsAt}
+use Rattle.machine.specs.Advance.{Lent, stateOf, freshAnswer, advanceAnswer}
+use Rattle.machine.specs.declared.State.{State}
+use Rattle.machine.specs.declared.Advanced.{Advanced}
+use Rattle.composed.specs.Sound.{Sound}
+use Rattle.composed.specs.Suited.{Suited}
+use Rattle.composed.specs.Related.{Related}
+use Rattle.composed.proofs.Run.{related-tick}
+use Rattle.demands.specs.Composed.{System, compiling, Accepted, joined, code, advanced, stateAt, readings, configurationAt, Fair, Right, ComposedRun, SameValues, RelationKept, RelatedAlways}
+use Rattle.demands.proofs.Verdict.{words-are}
+use Rattle.demands.proofs.Sound.{accepted-sound}
+
+-- one tick keeps the relation
+pub relation-kept : RelationKept
+relation-kept T W S h F n C s X x r = related-tick T W S F n C s X h x r
+
+-- the fresh state of an accepted program
+fresh-given : (T : Tables) → programVerdict T ≡ 0 → freshAnswer T ≡ record { number = 0; state = stateOf (programOf T .first) }
+unfolding freshAnswer
+fresh-given T a =
+    ap (λ (n : ℕ). elim n as (λ n. Advanced) [
+      | zero ↦ record { number = 0; state = stateOf (programOf T .first) }
+      | suc k ↦ record { number = suc k; state = stateOf (replicate maxPorts (pos 0)) }
+    ]) a
+
+module _ (Y : System) (a : Accepted Y) (F : Function) (lents : ℕ → Lent) where
+  -- the system is sound, and its code is the compiled one
+  sound : Sound (Y .tables) (Y .windows) (joined Y)
+  sound = accepted-sound Y a
+
+  is-compiled : code Y ≡ emit (listingOf (Y .tables))
+  is-compiled = words-are (compiling Y) (a .compiled)
+
+  -- a fair tick is accepted and keeps the relation
+  one-tick : (n : ℕ) (C : Configuration) (s : State) (X : Lent) → Suited (Y .tables) (code Y) (joined Y) F n C s X
+      → Related (Y .tables) (Y .windows) (joined Y) F n C s
+      → (advanced Y X s .number ≡ 0)
+      × Related (Y .tables) (Y .windows) (joined Y) F (suc n) (pass (programOf (Y .tables)) F n (X .readings) C) (advanced Y X s .state)
+  one-tick n C s X x r =
+      subst (λ (ws : List ℕ).
+      let b = advanceAnswer (record { tables = Y .tables; code = ws; schedule = joined Y; state = s; lent = X }) in
+      (b .number ≡ 0) × Related (Y .tables) (Y .windows) (joined Y) F (suc n) (pass (programOf (Y .tables)) F n (X .readings) C) (b .state))
+      (sym is-compiled)
+      (relation-kept (Y .tables) (Y .windows) (joined Y) sound F n C s X (subst (λ (ws : List ℕ). Suited (Y .tables) ws (joined Y) F n C s X) is-compiled x) r)
+
+  -- before every tick the relation holds, where those before it are fair
+  related : (n : ℕ) → ((k : ℕ) → k < n → Fair Y F lents k)
+      → Related (Y .tables) (Y .windows) (joined Y) F n (configurationAt Y F lents n) (stateAt Y lents n)
+  related zero f =
+      inl (record { no-tick = refl; initially = refl; is-fresh = ap (λ (b : Advanced). b .state) (fresh-given (Y .tables) (sound .accepted)) })
+  related (suc n) f =
+      one-tick n (configurationAt Y F lents n) (stateAt Y lents n) (lents n) (f n (omega arith)) (related n (λ k l. f k (omega arith))) .1
+
+  -- related configurations and states have the same ports
+  same-ports : (n : ℕ) (C : Configuration) (s : State) → Related (Y .tables) (Y .windows) (joined Y) F n C s → s .ports ≡ C .ports
+  same-ports n C s (inl f) = ap (λ (u : State). u .ports) (f .is-fresh) ∙ sym (ap (λ (D : Configuration). D .ports) (f .initially))
+  same-ports n C s (inr (k, g)) = g .ports
+
+  -- every tick is right as long as all are fair
+  right : (n : ℕ) → ((k : ℕ) → k ≤ n → Fair Y F lents k) → Right Y F lents n
+  right n f =
+      record {
+        accepted = one-tick n (configurationAt Y F lents n) (stateAt Y lents n) (lents n) (f n (omega arith)) (related n (λ k l. f k (omega arith))) .0;
+        ports = same-ports (suc n) (configurationAt Y F lents (suc n)) (stateAt Y lents (suc n)) (related (suc n) (λ k l. f k (omega arith)));
+      }
+
+-- the relation holds before every tick
+pub related-always : RelatedAlways
+related-always Y a F lents n f = related Y a F lents n f
+
+-- the composed run is Giotto's
+pub composed-run : ComposedRun
+composed-run Y a =
+    (ap (λ (b : Advanced). b .number) (fresh-given (Y .tables) (accepted-sound Y a .accepted)), λ F lents n f. right Y a F lents n f)
+
+-- values do not hang on who computes when
+pub same-values : SameValues
+same-values Y Z a b e F lents others r n f g =
+    right Y a F lents n f .ports
+    ∙ (λ i. portsAt (programOf (e i)) F (λ k. r k i) n)
+    ∙ sym (right Z b F others n g .ports)

@@ -1,0 +1,95 @@
+-- What is known of an accepted system: the program and the windows pass, the parts joined have their shape and pass number 13, and each
+-- supplier's worst-case run alone, with the joined schedule, keeps to its windows and its terminations.
+-- Assumes that the windows verdict and each supplier's verdict are 0.
+use Prim.Native.Nat.{ℕ, zero, suc, _<_}
+use mathlib.Core.Path.{_≡_, refl, sym, subst, _∙_}
+use mathlib.Core.List.{List, [], _∷_, map}
+use native.Mathlib.Omega.{arith}
+use lib.IntN.{pos}
+use Rattle.theory.specs.Verdict.{Refusal, within}
+use Rattle.theory.proofs.Verdict.{verdict-clear, verdict-both}
+use Rattle.cells.specs.Limits.{suppliers, maxPart}
+use Rattle.program.specs.Tables.{modeCount}
+use Rattle.rules.specs.Shape.{badSlice, WholeRows}
+use Rattle.rules.specs.Verdict.{tableRefusals}
+use Rattle.rules.proofs.Shape.{slice-bars}
+use Rattle.code.specs.Compile.{longRefusal, CodeFits}
+use Rattle.runs.specs.Schedule.{scheduleWidth}
+use Rattle.runs.specs.Round.{Course, Good, worstCase, nothing}
+use Rattle.runs.proofs.Exactly.{worst-fair}
+use Rattle.suppliers.specs.Windows.{Windowed, windowsShapeBad, windowRefusals, windowsVerdict, Windows}
+use Rattle.suppliers.specs.Schedule.{partBad, Part}
+use Rattle.suppliers.specs.Supplier.{Asked, supplierOf, courseOf, judged, partVerdict, supplierVerdict, windowedOf}
+use Rattle.suppliers.specs.declared.Answer.{Answer}
+use Rattle.suppliers.proofs.Windows.{windows-bar}
+use Rattle.suppliers.proofs.Schedule.{part-bars}
+use Rattle.suppliers.proofs.Accepted.{windows-accepted, part-after, part-some-time}
+use Rattle.suppliers.proofs.Joining.{joined-course, joined-fits, joined-whole}
+use Rattle.composed.specs.Sound.{Sound}
+use Rattle.demands.specs.Composed.{System, Accepted, joined}
+use Rattle.demands.proofs.Calls.{long-bars}
+use Rattle.demands.proofs.Supplier.{supplier-exact}
+
+-- where the windows verdict is 0, the code is within its limit, and the windows fit and share no tick
+windows-pass : (L : Windowed) → windowsVerdict L ≡ 0 → CodeFits (L .tables) × Windows L
+unfolding windowsVerdict
+windows-pass L e =
+    let own : List (Refusal Windowed) = within (λ (L : Windowed). L .tables) longRefusal ∷ windowRefusals in
+    let first : List (Refusal Windowed) = record { number = 1; applies = windowsShapeBad } ∷ map (within (λ (L : Windowed). L .tables)) tableRefusals in
+    let c = verdict-clear own L (omega arith) (verdict-both first own L (omega arith) e .1) in
+    (long-bars (L .tables) .ok (c .0), windows-bar L .ok (c .1 .0))
+
+-- a supplier is accepted only with its part
+part-passes : (L : Asked) → supplierVerdict L .number ≡ 0 → partVerdict L ≡ 0
+unfolding supplierVerdict
+part-passes L = go (partVerdict L)
+  where
+    go : (n : ℕ) → (elim n as (λ n. Answer) [ zero ↦ judged L | suc n ↦ record { number = suc n; mode = 0; tick = 0 } ]) .number ≡ 0 → n ≡ 0
+    go zero e = refl
+    go (suc n) e = e
+
+-- the part that passes has its shape and passes number 13
+part-fits : (L : Asked) → windowsVerdict (windowedOf L) ≡ 0 → partVerdict L ≡ 0
+    → WholeRows scheduleWidth maxPart (L .part) × Part (L .tables) (L .part) (supplierOf L)
+part-fits L w e =
+    let own : List (Refusal Asked) =
+    record { number = 1; applies = λ L. badSlice scheduleWidth maxPart (L .part) }
+    ∷ record { number = 13; applies = λ L. partBad (L .tables) (L .part) (supplierOf L) }
+    ∷ [] in
+    let c = verdict-clear own L (omega arith) (sym (part-after L w) ∙ e) in
+    (slice-bars scheduleWidth maxPart (L .part) .ok (c .0), part-bars (L .tables) (L .part) (supplierOf L) .ok (c .1 .0))
+
+-- an accepted supplier's worst-case run is good
+worst-good : (L : Asked) → supplierVerdict L .number ≡ 0 → (m : ℕ) → m < modeCount (L .tables)
+    → Good (courseOf L m) (worstCase (courseOf L m)) nothing
+worst-good L e m l =
+    let a = part-passes L e in supplier-exact L a .0 e m l (worstCase (courseOf L m)) (worst-fair (courseOf L m) (part-some-time L a m l))
+
+-- an accepted system is sound
+pub accepted-sound : (Y : System) → Accepted Y → Sound (Y .tables) (Y .windows) (joined Y)
+accepted-sound Y a =
+    let w = windows-pass lent (a .windows) in
+    record {
+      accepted = windows-accepted lent (a .windows);
+      fits = w .0;
+      windows = w .1;
+      rows = joined-whole (Y .tables) (Y .parts) fits whole;
+      joined = joined-fits (Y .tables) (Y .parts) fits whole;
+      good = λ s m l k. subst (λ (C : Course). Good C (worstCase C) nothing)
+          (sym (joined-course (Y .tables) (Y .parts) fits whole (Y .windows) s m l)) (worst-good (asked s) (a .suppliers s l) m k);
+    }
+  where
+    lent : Windowed
+    lent = record { tables = Y .tables; windows = Y .windows }
+
+    asked : ℕ → Asked
+    asked s = record { tables = Y .tables; windows = Y .windows; part = Y .parts s; supplier = pos s }
+
+    both : (s : ℕ) → s < suppliers → WholeRows scheduleWidth maxPart (Y .parts s) × Part (Y .tables) (Y .parts s) s
+    both s l = part-fits (asked s) (a .windows) (part-passes (asked s) (a .suppliers s l))
+
+    fits : (s : ℕ) → s < suppliers → Part (Y .tables) (Y .parts s) s
+    fits s l = both s l .1
+
+    whole : (s : ℕ) → s < suppliers → WholeRows scheduleWidth maxPart (Y .parts s)
+    whole s l = both s l .0
