@@ -1,14 +1,16 @@
 -- The words of a listing say its instructions, and no others.
--- Assumes nothing: the words of any list of instructions read back, whatever its numbers.
+-- Assumes nothing: the words of any list of instructions read back, whatever its numbers; of what compiling leaves, that it is not refused.
 use Prim.Native.Nat.{_*_}
 use mathlib.Core.Path.{_≡_, refl, ap}
 use mathlib.Core.List.{List, [], _∷_}
 use native.Mathlib.Omega.{arith}
-use lib.ListN.{length, length-append}
+use lib.ListN.{length, drop, length-append}
+use lib.Seq.{take-at}
 use Rattle.cells.specs.Limits.{wordsEach}
 use Rattle.program.specs.Program.{Program}
 use Rattle.code.specs.Op.{Op, call, schedule, branch, jump, future, return, faulty, words, emit, instructions}
 use Rattle.code.specs.Listing.{listing}
+use Rattle.code.specs.Compile.{Compiling, listingOf, compileVerdict, compileAnswer, compileSlice, wordsOf}
 
 -- what is written reads back
 pub emit-instructions : (os : List Op) → instructions (emit os) ≡ os
@@ -39,3 +41,10 @@ words-length faulty = refl
 pub emit-length : (os : List Op) → length (emit os) ≡ wordsEach * length os
 emit-length [] = refl
 emit-length (o ∷ os) = omega (arith, length-append (words o) (emit os), words-length o, emit-length os)
+
+-- the words that compiling leaves are those of the listing
+pub words-are : (L : Compiling) → compileVerdict L ≡ 0 → wordsOf L ≡ emit (listingOf (L .tables))
+words-are L e =
+    rw (e, compileAnswer, compileSlice)
+    (take-at (emit (listingOf (L .tables))) (drop (wordsEach * length (listingOf (L .tables))) (L .slice)) (wordsEach * length (listingOf (L .tables)))
+    (emit-length (listingOf (L .tables))))

@@ -5,7 +5,7 @@ use mathlib.Core.Bool.{Bool, _||_}
 use mathlib.Core.List.{List, [], _∷_, _++_, map}
 use mathlib.Core.Option.{Option, none, some}
 use lib.Dec.{ltb}
-use lib.ListN.{length, drop, getD}
+use lib.ListN.{length, take, drop, getD}
 use Rattle.theory.specs.Verdict.{Refusal, within, verdict, Rule, holding}
 use Rattle.cells.specs.Limits.{maxCode, wordsEach}
 use Rattle.program.specs.Tables.{Tables}
@@ -77,6 +77,10 @@ compileSlice L = elim (compileVerdict L) [
   | zero ↦ emit (listingOf (L .tables)) ++ drop (wordsEach * length (listingOf (L .tables))) (L .slice)
   | suc n ↦ L .slice
 ]
+
+-- the words that compiling leaves in the slice
+abbrev pub wordsOf : Compiling → List ℕ
+wordsOf L = take (wordsEach * compileAnswer L .length) (compileSlice L)
 
 -- the delay of the `future` at an address of a code, or none
 abbrev pub futureDelay : Op → Option ℕ

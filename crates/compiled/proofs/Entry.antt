@@ -16,13 +16,12 @@ use Rattle.program.proofs.Decoded.{mode-count, next-below}
 use Rattle.rules.specs.Verdict.{programVerdict}
 use Rattle.rules.specs.Fields.{inRange}
 use Rattle.rules.proofs.Fields.{range-says}
+use Rattle.rules.proofs.Accepted.{accepted-ticks}
 use Rattle.code.specs.Op.{future}
 use Rattle.code.specs.Listing.{headSize, blockAddress, entryAddress, futureAddress, headOf, bodyOf, listing}
-use Rattle.code.specs.Compile.{listingOf}
 use Rattle.code.proofs.At as place
-use Rattle.code.proofs.Place.{placed, delay-there}
+use Rattle.code.proofs.Place.{placed}
 use Rattle.code.proofs.Inside.{block-inside}
-use Rattle.layout.proofs.Delay.{delay-in-range}
 use Rattle.machine.specs.declared.State.{State}
 use Rattle.machine.specs.Instant.{ok}
 use Rattle.compiled.specs.Block.{opOf, headSteps, bodySteps, through, begun, entered}
@@ -54,9 +53,7 @@ module _ (T : Tables) (a : programVerdict T ≡ 0) (readings times : List ℤ) w
   module _ (m k : ℕ) (h : m < length (P .modes)) (l : k < mode P m .units) where
     -- the delay of a unit is one that a `future` may have
     delay-right : not (inRange (ticksOf (mode P m)) maxDelay) ≡ false
-    unfolding listingOf
-    delay-right =
-        ap not (is-true (range-says (ticksOf (mode P m)) maxDelay) (delay-in-range T a (futureAddress P m k) (ticksOf (mode P m)) (delay-there P m k h l)))
+    delay-right = ap not (is-true (range-says (ticksOf (mode P m)) maxDelay) (accepted-ticks T a m (omega (arith, mode-count T))))
 
     -- the end of a unit
     end-run : (count : ℕ) (s : State) → from P readings times (listing P) (suc (suc count)) (futureAddress P m k) s ≡ ok (begun P readings times m k s)

@@ -2,31 +2,30 @@
 -- yet or a unit has ended. Assumes that the system is sound.
 use Prim.Native.Nat.{ℕ, suc, _%_, _^_, _≤_, _<_}
 use mathlib.Core.Path.{_≡_, refl, sym, ap, ap₂, subst, _∙_}
-use mathlib.Core.Bool.{Bool, true, false, _&&_}
+use mathlib.Core.Bool.{Bool, true, false}
 use mathlib.Core.List.{List, [], _∷_}
 use mathlib.Core.Logic.{inl, inr}
 use native.Mathlib.Omega.{arith}
 use lib.Dec.{eqb}
 use lib.IntN.{ℤ}
 use lib.ListN.{length, length-replicate}
-use borrow.Author.Tests.{eq-eqb}
 use Rattle.theory.specs.Lists.{keep, member, gather, puts}
 use Rattle.theory.proofs.Bools.{clash}
 use Rattle.theory.proofs.Lists.{each-length}
 use Rattle.theory.proofs.Filled.{zeros-at}
-use Rattle.theory.proofs.Members.{keep-members, member-keep}
+use Rattle.theory.proofs.Members.{keep-members}
 use Rattle.cells.specs.Limits.{suppliers, maxPorts, maxTasks}
-use Rattle.program.specs.Tables.{Tables, portFirst, taskCount}
-use Rattle.program.specs.Program.{Program, Task, programOf, task, mode, ticksOf, nextUnit, dueTasks}
+use Rattle.program.specs.Tables.{Tables, portFirst}
+use Rattle.program.specs.Program.{Program, programOf, task, mode, ticksOf, nextUnit, dueTasks}
 use Rattle.program.specs.Ports.{valueOf, takes}
-use Rattle.program.proofs.Decoded.{mode-count, task-row, next-below}
-use Rattle.rules.specs.Verdict.{programVerdict}
+use Rattle.program.proofs.Decoded.{mode-count, next-below}
 use Rattle.rules.proofs.Accepted.{accepted-fields, due-declared}
 use Rattle.code.proofs.Accepted.{accepted-modes}
 use Rattle.runs.specs.Tick.{leftOf}
 use Rattle.runs.specs.Round.{before, worstCase, nothing}
 use Rattle.runs.specs.Dominated.{AtMost}
-use Rattle.suppliers.specs.Supplier.{ownTasks, course}
+use Rattle.suppliers.specs.Supplier.{course}
+use Rattle.suppliers.proofs.Accepted.{own-member, owner-declared}
 use Rattle.giotto.specs.Instant.{Configuration, Function, results, afterTasks}
 use Rattle.giotto.specs.Execution.{initial}
 use Rattle.giotto.proofs.Due.{due-of-mode}
@@ -36,15 +35,6 @@ use Rattle.compiled.specs.Done.{seen, local, AtBlock}
 use Rattle.composed.specs.Sound.{Sound}
 use Rattle.composed.specs.Related.{OwnedBy, tasksOf, Fresh, worstRun, Going}
 use Rattle.composed.proofs.Copied.{copied-same, copied-held}
-
--- of a supplier's own tasks among some, a task of it is one exactly where it is among them
-pub own-member : (P : Program) (j t : ℕ) (ts : List ℕ) → OwnedBy P j t → member t (ownTasks P j ts) ≡ member t ts
-own-member P j t ts o =
-    member-keep (λ x. eqb (task P x .supplier) j) t ts ∙ ap (λ (b : Bool). b && member t ts) (eq-eqb (task P t .supplier) j o)
-
--- a declared task's supplier is one of the suppliers
-pub owner-declared : (T : Tables) → programVerdict T ≡ 0 → (t : ℕ) → t < taskCount T → task (programOf T) t .supplier < suppliers
-owner-declared T a t l = subst (λ (K : Task). K .supplier < suppliers) (sym (task-row T t l)) (accepted-fields T a .tasks t l .supplier)
 
 module _ (T : Tables) (W S : List ℤ) (F : Function) where
   abbrev P : Program

@@ -25,6 +25,7 @@ use Rattle.runs.specs.Dominated.{AtMost}
 use Rattle.runs.proofs.Dominated.{before-length}
 use Rattle.runs.proofs.Released.{release-length, release-in, release-out, release-among}
 use Rattle.suppliers.specs.Supplier.{ownTasks, course}
+use Rattle.suppliers.proofs.Accepted.{own-member}
 use Rattle.giotto.specs.Instant.{Configuration, Function, results, sensed, switchOf, afterUpdates, afterSensors, taken, modeAfter, unitAfter, afterSwitch, afterDrivers, enter, instant}
 use Rattle.giotto.proofs.Due.{due-of-mode}
 use Rattle.giotto.proofs.Execution.{instant-ports}
@@ -32,7 +33,7 @@ use Rattle.machine.specs.declared.State.{State}
 use Rattle.compiled.specs.Done.{leaves, tasksReleased, done}
 use Rattle.composed.specs.Sound.{Sound}
 use Rattle.composed.specs.Related.{OwnedBy, tasksOf, worstRun, Going}
-use Rattle.composed.proofs.Edge.{own-member, Edge}
+use Rattle.composed.proofs.Edge.{Edge}
 use Rattle.composed.proofs.Arrived.{Arrived, arrive}
 
 module _ (T : Tables) (W S : List ℤ) (F : Function) (h : Sound T W S) (n : ℕ) (C : Configuration) (s : State) (g : Edge T W S F n C s)

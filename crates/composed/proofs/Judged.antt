@@ -26,8 +26,9 @@ use Rattle.machine.specs.declared.State.{State}
 use Rattle.machine.specs.Advance.{Lent, Advance, AdvanceShaped, runRefusals, advanceVerdict}
 use Rattle.machine.proofs.Fits.{advance-shape-bars, state-bars}
 use Rattle.composed.specs.Sound.{Sound}
+use Rattle.composed.specs.Suited.{byCompiled}
 use Rattle.composed.specs.Related.{Related}
-use Rattle.composed.proofs.Within.{advanced, related-fits}
+use Rattle.composed.proofs.Within.{related-fits}
 
 -- compiled code that is within the limit is whole instructions
 code-whole : (T : Tables) → CodeFits T → WholeRows wordsEach maxCode (emit (listingOf T))
@@ -48,7 +49,7 @@ asked-none L a f =
 -- the verdict is 0
 pub related-verdict : (T : Tables) (W S : List ℤ) (F : Function) → Sound T W S → (n : ℕ) (C : Configuration) (s : State) (X : Lent) → Related T W S F n C s
     → length (X .readings) ≡ maxPorts → length (X .results) ≡ maxPorts → length (X .times) ≡ maxTasks
-    → advanceVerdict (record { tables = T; code = emit (listingOf T); schedule = S; state = s; lent = X }) ≡ 0
+    → advanceVerdict (byCompiled T S X s) ≡ 0
 unfolding advanceVerdict
 related-verdict T W S F sound n C s X related r o t =
     or-else-no 1 (verdict (asked ++ runRefusals) L) (bars-iff (advance-shape-bars L) .1 shaped)
@@ -56,13 +57,13 @@ related-verdict T W S F sound n C s X related r o t =
     ∙ ap₂ after (asked-none L (sound .accepted) (sound .fits)) own)
   where
     L : Advance
-    L = advanced T S X s
+    L = byCompiled T S X s
 
     shaped : AdvanceShaped L
     shaped = record {
       tables = accepted-shaped T (sound .accepted);
       code = code-whole T (sound .fits);
-      schedule = sound .rows;
+      schedule = sound .whole;
       readings = r;
       results = o;
       times = t;

@@ -9,20 +9,17 @@ use mathlib.Core.Option.{Option}
 use native.Mathlib.Decide.{ℕ-discrete}
 use native.Mathlib.Omega.{arith}
 use lib.IntN.{ℤ}
-use borrow.Author.Tests.{eq-eqb, ne-eqb}
 use Rattle.theory.specs.Lists.{member}
 use Rattle.cells.specs.Cell.{numAt}
-use Rattle.program.specs.Tables.{Tables, modeCount}
-use Rattle.program.specs.Program.{Program, Mode, Switch, programOf, task, mode, ticksOf, dueTasks}
-use Rattle.program.proofs.Decoded.{mode-row}
+use Rattle.program.specs.Tables.{Tables}
+use Rattle.program.specs.Program.{Program, Switch, programOf, task, mode, dueTasks}
 use Rattle.rules.specs.Fields.{InRange}
-use Rattle.rules.specs.Verdict.{programVerdict}
-use Rattle.rules.proofs.Timing.{ticks-some}
-use Rattle.rules.proofs.Accepted.{accepted-fields, accepted-units-fit}
+use Rattle.rules.proofs.Accepted.{accepted-ticks}
 use Rattle.code.specs.Op.{emit, instructions}
 use Rattle.code.specs.Compile.{listingOf}
-use Rattle.giotto.specs.Instant.{Configuration, Function, results, sensed, switchOf, modeAfter, unitAfter, afterSwitch, afterDrivers, instant, released}
-use Rattle.giotto.specs.Execution.{pass, releasedBy}
+use Rattle.giotto.specs.Instant.{Configuration, Function, results, sensed, switchOf, modeAfter, unitAfter, afterSwitch, afterDrivers, instant}
+use Rattle.giotto.specs.Execution.{pass}
+use Rattle.giotto.proofs.Execution.{pass-goes, releases-then, pass-stays}
 use Rattle.machine.specs.declared.State.{State}
 use Rattle.machine.specs.declared.Advanced.{Advanced}
 use Rattle.machine.specs.Instant.{ok}
@@ -34,31 +31,13 @@ use Rattle.compiled.specs.Done.{tasksReleased}
 use Rattle.compiled.proofs.Does.{words-do}
 use Rattle.compiled.proofs.Leaves.{instant-done}
 use Rattle.composed.specs.Sound.{Sound}
-use Rattle.composed.specs.Suited.{Suited}
+use Rattle.composed.specs.Suited.{byCompiled, Suited}
 use Rattle.composed.specs.Related.{Going, Related}
 use Rattle.composed.proofs.Edge.{Edge, fresh-edge, going-edge}
 use Rattle.composed.proofs.Arrived.{Arrived}
 use Rattle.composed.proofs.Entered.{after, done-is, released-are, arrived, enters}
 use Rattle.composed.proofs.Ticked.{tick-related}
-use Rattle.composed.proofs.Within.{advanced}
 use Rattle.composed.proofs.Judged.{related-verdict}
-
-module _ (P : Program) (F : Function) (n : ℕ) (readings : List ℤ) (C : Configuration) where
-  -- at its time stamp a configuration goes on to the next, and releases tasks
-  pass-goes : C .time ≡ n → pass P F n readings C ≡ instant P (results P F (C .ports)) readings C
-  pass-goes e = rw (eq-eqb (C .time) n e, pass)
-
-  releases-then : C .time ≡ n → releasedBy P F n readings C ≡ released P (results P F (C .ports)) readings C
-  releases-then e = rw (eq-eqb (C .time) n e, releasedBy)
-
-  -- at any other tick it stays
-  pass-stays : (C .time ≡ n → ⊥) → pass P F n readings C ≡ C
-  pass-stays d = rw (ne-eqb (C .time) n d, pass)
-
--- a unit has a tick
-unit-ticks : (T : Tables) → programVerdict T ≡ 0 → (m : ℕ) → m < modeCount T → 1 ≤ ticksOf (mode (programOf T) m)
-unit-ticks T a m l =
-    subst (λ (M : Mode). 1 ≤ ticksOf M) (sym (mode-row T m l)) (ticks-some T (accepted-fields T a) (accepted-units-fit T a) m l)
 
 module _ (T : Tables) (W S : List ℤ) (F : Function) (n : ℕ) (C : Configuration) (s : State) (X : Lent) where
   abbrev P : Program
@@ -89,7 +68,7 @@ module _ (T : Tables) (W S : List ℤ) (F : Function) (n : ℕ) (C : Configurati
               subst (λ (D : Configuration). Going T W S F (unitAfter (C .unit) w) n D (after T W S F h n C s g (X .readings) (X .times)))
               (sym (pass-goes P F n (X .readings) C (g .stamp)))
               (enters T W S F h n C s g (X .readings) (X .times) in-range);
-          more = unit-ticks T (h .accepted) (modeAfter (C .mode) w) (there .declared);
+          more = accepted-ticks T (h .accepted) (modeAfter (C .mode) w) (there .declared) .0;
         }
       where
         v : List ℤ
@@ -132,8 +111,8 @@ module _ (T : Tables) (W S : List ℤ) (F : Function) (n : ℕ) (C : Configurati
 
     -- the tick is accepted, and the relation holds after it
     pub related-tick : Related T W S F n C s
-        → (advanceAnswer (advanced T S X s) .number ≡ 0)
-        × Related T W S F (suc n) (pass P F n (X .readings) C) (advanceAnswer (advanced T S X s) .state)
+        → (advanceAnswer (byCompiled T S X s) .number ≡ 0)
+        × Related T W S F (suc n) (pass P F n (X .readings) C) (advanceAnswer (byCompiled T S X s) .state)
     related-tick r = (
       ap (λ (a : Advanced). a .number) answered,
       subst (λ (a : Advanced). Related T W S F (suc n) (pass P F n (X .readings) C) (a .state)) (sym answered) (inr (b .unit, next .2)),
@@ -145,7 +124,7 @@ module _ (T : Tables) (W S : List ℤ) (F : Function) (n : ℕ) (C : Configurati
         next : (v : State) × (tickAll P S (X .results) (b .state) ≡ ok v) × Going T W S F (b .unit) (suc n) (pass P F n (X .readings) C) v
         next = tick-related T W S F h (b .unit) n (pass P F n (X .readings) C) (b .state) (X .results) (b .keeps) (b .more) (λ t p. x .results (b .state) t p (b .runs))
 
-        answered : advanceAnswer (advanced T S X s) ≡ record { number = 0; state = next .0 }
+        answered : advanceAnswer (byCompiled T S X s) ≡ record { number = 0; state = next .0 }
         answered =
-            sym (advance-steps (advanced T S X s) (related-verdict T W S F h n C s X r (x .readings-length) (x .results-length) (x .times-length)))
+            sym (advance-steps (byCompiled T S X s) (related-verdict T W S F h n C s X r (x .readings-length) (x .results-length) (x .times-length)))
             ∙ ap (answer s) (ap (goes P (instructions (emit (listingOf T))) S X s) (b .runs) ∙ next .1)

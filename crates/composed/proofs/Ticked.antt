@@ -8,22 +8,20 @@ use mathlib.Core.List.{List}
 use mathlib.Core.Logic.{inl}
 use native.Mathlib.Decide.{ℕ-discrete}
 use native.Mathlib.Omega.{arith}
-use lib.Dec.{eqb}
 use lib.IntN.{ℤ}
 use lib.ListN.{length, length-set}
-use Rattle.theory.specs.Lists.{member, puts}
-use Rattle.theory.proofs.Bools.{clash, is-false, says-itself}
-use Rattle.theory.proofs.Puts.{puts-length}
+use Rattle.theory.specs.Lists.{member}
+use Rattle.theory.proofs.Bools.{is-false, says-itself}
 use Rattle.cells.specs.Limits.{suppliers}
 use Rattle.program.specs.Tables.{Tables}
 use Rattle.program.specs.Program.{Program, programOf, task}
-use Rattle.program.specs.Ports.{valueOf, valuesOf, takes}
+use Rattle.program.specs.Ports.{valueOf, valuesOf}
 use Rattle.program.proofs.Decoded.{output-declared}
 use Rattle.rules.proofs.Shape.{ports-few}
 use Rattle.rules.proofs.Accepted.{accepted-shaped}
-use Rattle.runs.specs.Tick.{leftOf, Act, rest, run, runs, after}
+use Rattle.runs.specs.Tick.{leftOf, Act, run, runs, after}
 use Rattle.runs.specs.Schedule.{blockOf}
-use Rattle.runs.proofs.Tick.{tick-busy, after-less}
+use Rattle.runs.proofs.Tick.{tick-busy, after-less, rests}
 use Rattle.giotto.specs.Instant.{Configuration, Function, results}
 use Rattle.giotto.proofs.Due.{tasks-one}
 use Rattle.machine.specs.declared.State.{State}
@@ -31,25 +29,12 @@ use Rattle.machine.specs.Instant.{ok}
 use Rattle.machine.specs.Schedules.{Who, nobody, one, several, placeOf, actOf, running, outputsAfter, afterTick, ticked, tickAll}
 use Rattle.machine.specs.Moves.{Worked, Works}
 use Rattle.machine.proofs.Collide.{Known, known}
+use Rattle.machine.proofs.Completing.{outputs-length}
 use Rattle.machine.proofs.Moved.{tick-passes}
 use Rattle.composed.specs.Sound.{Sound}
 use Rattle.composed.specs.Related.{tasksOf, Going}
 use Rattle.composed.proofs.OneRuns.{not-several}
 use Rattle.composed.proofs.Passing.{passing}
-
--- who does not run leaves the remaining times as they are
-rests : (a : Act) (left : List ℕ) → runs a ≡ false → left ≡ after a left
-rests rest left e = refl
-rests (run t) left e = clash {b = true} refl e
-
--- the local outputs stay as many
-outputs-length : (P : Program) (given : List ℤ) (s : State) (t : ℕ) → length (outputsAfter P given s t) ≡ length (s .outputs)
-outputs-length P given s t = go (eqb (leftOf (s .left) t) 1)
-  where
-    go : (b : Bool) → length {A = ℤ} (elim b [ true ↦ puts (takes (valueOf given) (task P t .outputs)) (s .outputs) | false ↦ s .outputs ])
-        ≡ length (s .outputs)
-    go true = puts-length (takes (valueOf given) (task P t .outputs)) (s .outputs)
-    go false = refl
 
 module _ (T : Tables) (W S : List ℤ) (F : Function) (sound : Sound T W S) (k n : ℕ) (C : Configuration) (u : State) (given : List ℤ)
     (h : Going T W S F k n C u) (more : 1 ≤ u .remaining) where

@@ -4,19 +4,19 @@ use Prim.Native.Nat.{ℕ, _/_, _≤_, _<_}
 use mathlib.Core.Path.{_≡_, sym, ap, subst, _∙_}
 use mathlib.Core.List.{List}
 use mathlib.Core.Logic.{inl, inr}
-use native.Mathlib.Nat.{div-le-self, mul-div-cancel-left}
+use native.Mathlib.Nat.{mul-div-cancel-left}
 use native.Mathlib.Decide.{decLt}
 use native.Mathlib.Omega.{arith}
 use lib.IntN.{ℤ}
 use lib.ListN.{length, List·getD-eq-default}
 use Rattle.theory.proofs.Lists.{those-few}
 use Rattle.theory.proofs.Filled.{zeros-at}
-use Rattle.cells.specs.Limits.{suppliers, maxTasks, wordsEach, maxWorst, maxPeriod}
-use Rattle.program.specs.Tables.{Tables, modeCount, taskCount}
-use Rattle.program.specs.Program.{Program, Task, Mode, programOf, task, mode, ticksOf}
-use Rattle.program.proofs.Decoded.{next-below, task-count, mode-count, task-row, mode-row}
+use Rattle.cells.specs.Limits.{suppliers, maxTasks, wordsEach, maxWorst}
+use Rattle.program.specs.Tables.{Tables, taskCount}
+use Rattle.program.specs.Program.{Program, Task, programOf, task, mode}
+use Rattle.program.proofs.Decoded.{next-below, task-count, mode-count, task-row}
 use Rattle.rules.specs.Verdict.{programVerdict}
-use Rattle.rules.proofs.Accepted.{accepted-fields}
+use Rattle.rules.proofs.Accepted.{accepted-fields, accepted-ticks}
 use Rattle.code.specs.Op.{emit}
 use Rattle.code.specs.Listing.{listing}
 use Rattle.code.specs.Compile.{listingOf}
@@ -27,13 +27,10 @@ use Rattle.runs.specs.Schedule.{scheduleCount, rowOf, blockOf}
 use Rattle.runs.proofs.Tick.{passed-few}
 use Rattle.giotto.specs.Instant.{Configuration, Function}
 use Rattle.machine.specs.declared.State.{State}
-use Rattle.machine.specs.Advance.{Lent, Advance, StateFits, stateOf}
+use Rattle.machine.specs.Advance.{Lent, StateFits, stateOf}
 use Rattle.composed.specs.Sound.{Sound}
+use Rattle.composed.specs.Suited.{byCompiled}
 use Rattle.composed.specs.Related.{Going, Related}
-
--- the advance of a state by compiled code
-abbrev pub advanced : Tables → List ℤ → Lent → State → Advance
-advanced T S X s = record { tables = T; code = emit (listingOf T); schedule = S; state = s; lent = X }
 
 -- as many instructions as the listing has
 code-count : (T : Tables) → length (emit (listingOf T)) / wordsEach ≡ length (listing (programOf T))
@@ -51,12 +48,6 @@ block-few : (S : List ℤ) (j a : ℕ) → length (blockOf S j a) ≤ scheduleCo
 block-few S j a = those-few _ (rowOf S) (scheduleCount S) 0
 
 module _ (T : Tables) (a : programVerdict T ≡ 0) where
-  -- no unit is longer than the longest period
-  ticks-few : (m : ℕ) → m < modeCount T → ticksOf (mode (programOf T) m) ≤ maxPeriod
-  ticks-few m l =
-      let e = ap (λ (M : Mode). M .period) (mode-row T m l) in
-      omega (arith, e, div-le-self (mode (programOf T) m .period) (mode (programOf T) m .units), accepted-fields T a .modes m l .1)
-
   -- no worst case is longer than the longest
   worst-few : (t : ℕ) → task (programOf T) t .worst ≤ maxWorst
   worst-few t = go (decLt t (taskCount T))
@@ -73,7 +64,7 @@ module _ (T : Tables) (W S : List ℤ) (F : Function) (sound : Sound T W S) (n :
   P = programOf T
 
   -- a fresh state
-  fresh-fits : StateFits (advanced T S X (stateOf (P .first)))
+  fresh-fits : StateFits (byCompiled T S X (stateOf (P .first)))
   fresh-fits = record {
     pending = code-some T;
     current = code-some T;
@@ -84,12 +75,12 @@ module _ (T : Tables) (W S : List ℤ) (F : Function) (sound : Sound T W S) (n :
   }
 
   -- a state with which a unit goes on
-  going-fits : (s : State) (k : ℕ) → Going T W S F k n C s → StateFits (advanced T S X s)
+  going-fits : (s : State) (k : ℕ) → Going T W S F k n C s → StateFits (byCompiled T S X s)
   going-fits s k h =
       let m = C .mode in
       let d : m < length (P .modes) = omega (arith, mode-count T, h .declared) in
       let u : C .unit < mode P m .units = omega (arith, h .next, next-below (mode P m) k (h .in-round)) in
-      let t = ticks-few T (sound .accepted) m (h .declared) in
+      let t = accepted-ticks T (sound .accepted) m (h .declared) .1 in
       record {
         pending = omega (arith, h .pending, code-count T, block-inside P m (C .unit) d u);
         current = omega (arith, h .current, code-count T, future-in-block P m k .ends, block-within P m k d (h .in-round));
@@ -105,6 +96,6 @@ module _ (T : Tables) (W S : List ℤ) (F : Function) (sound : Sound T W S) (n :
       }
 
   -- so every related state fits the code and the schedule
-  pub related-fits : (s : State) → Related T W S F n C s → StateFits (advanced T S X s)
-  related-fits s (inl f) = subst (λ (s : State). StateFits (advanced T S X s)) (sym (f .is-fresh)) fresh-fits
+  pub related-fits : (s : State) → Related T W S F n C s → StateFits (byCompiled T S X s)
+  related-fits s (inl f) = subst (λ (s : State). StateFits (byCompiled T S X s)) (sym (f .is-fresh)) fresh-fits
   related-fits s (inr (k, h)) = going-fits s k h

@@ -48,7 +48,7 @@ module _ (T : Tables) (W S : List ℤ) (F : Function) where
 
   -- unit k of the mode goes on: so it is from the end of its instant to the start of the next
   pub record Going (k n : ℕ) (C : Configuration) (s : State) : Type 0 where
-    -- mode and unit, and the addresses that say so: `future`s stand one in a block, blocks one after the other
+    -- mode and unit, and the addresses that say so: each block has one `future`, and each address is in one block
     pub declared : C .mode < modeCount T
     pub in-round : k < mode P (C .mode) .units
     pub next : C .unit ≡ nextUnit (mode P (C .mode)) k

@@ -21,7 +21,7 @@ pub record Sound (T : Tables) (W S : List ℤ) : Type 0 where
   pub fits : CodeFits T
   pub windows : Windows (record { tables = T; windows = W })
   -- the joined schedule has its shape, and passes 13
-  pub rows : WholeRows scheduleWidth maxSchedule S
+  pub whole : WholeRows scheduleWidth maxSchedule S
   pub joined : Joined T S
   -- each supplier's worst-case run alone, in every mode, keeps to its windows and its terminations
   pub good : (j m : ℕ) → j < suppliers → m < modeCount T

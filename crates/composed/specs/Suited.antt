@@ -13,14 +13,19 @@ use Rattle.program.specs.Tables.{Tables}
 use Rattle.program.specs.Program.{programOf, task}
 use Rattle.program.specs.Ports.{valueOf, valuesOf}
 use Rattle.rules.specs.Fields.{InRange}
-use Rattle.code.specs.Op.{instructions}
+use Rattle.code.specs.Op.{emit, instructions}
+use Rattle.code.specs.Compile.{listingOf}
 use Rattle.runs.specs.Tick.{leftOf}
 use Rattle.giotto.specs.Instant.{Configuration, Function}
 use Rattle.giotto.specs.Execution.{releasedBy}
 use Rattle.machine.specs.Instant.{ok}
 use Rattle.machine.specs.Schedules.{one, running}
-use Rattle.machine.specs.Advance.{Lent, ready}
+use Rattle.machine.specs.Advance.{Lent, Advance, ready}
 use Rattle.machine.specs.declared.State.{State}
+
+-- an advance of state s by the compiled code, with what it is lent
+abbrev pub byCompiled : Tables → List ℤ → Lent → State → Advance
+byCompiled T S X s = record { tables = T; code = emit (listingOf T); schedule = S; state = s; lent = X }
 
 -- tick n, before which Giotto's configuration is C and the machine's state is s
 pub record Suited (T : Tables) (code : List ℕ) (S : List ℤ) (F : Function) (n : ℕ) (C : Configuration) (s : State) (X : Lent) : Type 0 where

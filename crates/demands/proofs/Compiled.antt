@@ -7,6 +7,7 @@ use lib.IntN.{ℤ}
 use Rattle.program.specs.Program.{programOf}
 use Rattle.code.specs.Op.{instructions}
 use Rattle.code.specs.Compile.{Compiling, compileVerdict}
+use Rattle.code.proofs.Words.{words-are}
 use Rattle.machine.specs.declared.State.{State}
 use Rattle.machine.specs.Instant.{runInstant}
 use Rattle.compiled.specs.Block.{blockInstant}
@@ -14,7 +15,7 @@ use Rattle.compiled.specs.Done.{AtBlock}
 use Rattle.compiled.proofs.Does.{words-do, only-two, only-late}
 use Rattle.compiled.proofs.Leaves.{instant-done}
 use Rattle.demands.specs.Compiled.{instantOf, CompiledInstant}
-use Rattle.demands.proofs.Verdict.{compiled-accepted, words-are}
+use Rattle.demands.proofs.Verdict.{compiled-accepted}
 
 -- over the words that compiling leaves, an instant comes to what it does from the block
 from-block : (L : Compiling) → compileVerdict L ≡ 0 → (readings times : List ℤ) (m k : ℕ) (s : State) → AtBlock (L .tables) m k s

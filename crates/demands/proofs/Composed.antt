@@ -5,39 +5,27 @@ use mathlib.Core.Path.{_≡_, refl, sym, ap, subst, _∙_}
 use mathlib.Core.List.{List}
 use mathlib.Core.Logic.{inl, inr}
 use native.Mathlib.Omega.{arith}
-use lib.IntN.{pos}
-use lib.ListN.{replicate}
-use Rattle.cells.specs.Limits.{maxPorts}
-use Rattle.program.specs.Tables.{Tables}
 use Rattle.program.specs.Program.{programOf}
-use Rattle.rules.specs.Verdict.{programVerdict}
 use Rattle.code.specs.Op.{emit}
 use Rattle.code.specs.Compile.{listingOf}
+use Rattle.code.proofs.Words.{words-are}
 use Rattle.giotto.specs.Instant.{Configuration, Function}
 use Rattle.giotto.specs.Execution.{pass, portsAt}
-use Rattle.machine.specs.Advance.{Lent, stateOf, freshAnswer, advanceAnswer}
+use Rattle.machine.specs.Advance.{Lent, advanceAnswer}
 use Rattle.machine.specs.declared.State.{State}
 use Rattle.machine.specs.declared.Advanced.{Advanced}
+use Rattle.machine.proofs.Answered.{fresh-accepted}
 use Rattle.composed.specs.Sound.{Sound}
 use Rattle.composed.specs.Suited.{Suited}
 use Rattle.composed.specs.Related.{Related}
 use Rattle.composed.proofs.Run.{related-tick}
 use Rattle.demands.specs.Composed.{System, compiling, Accepted, joined, code, advanced, stateAt, readings, configurationAt, Fair, Right, ComposedRun, SameValues, RelationKept, RelatedAlways}
-use Rattle.demands.proofs.Verdict.{words-are}
+use Rattle.demands.proofs.Calls.{fresh-number}
 use Rattle.demands.proofs.Sound.{accepted-sound}
 
 -- one tick keeps the relation
 pub relation-kept : RelationKept
 relation-kept T W S h F n C s X x r = related-tick T W S F n C s X h x r
-
--- the fresh state of an accepted program
-fresh-given : (T : Tables) → programVerdict T ≡ 0 → freshAnswer T ≡ record { number = 0; state = stateOf (programOf T .first) }
-unfolding freshAnswer
-fresh-given T a =
-    ap (λ (n : ℕ). elim n as (λ n. Advanced) [
-      | zero ↦ record { number = 0; state = stateOf (programOf T .first) }
-      | suc k ↦ record { number = suc k; state = stateOf (replicate maxPorts (pos 0)) }
-    ]) a
 
 module _ (Y : System) (a : Accepted Y) (F : Function) (lents : ℕ → Lent) where
   -- the system is sound, and its code is the compiled one
@@ -63,7 +51,7 @@ module _ (Y : System) (a : Accepted Y) (F : Function) (lents : ℕ → Lent) whe
   related : (n : ℕ) → ((k : ℕ) → k < n → Fair Y F lents k)
       → Related (Y .tables) (Y .windows) (joined Y) F n (configurationAt Y F lents n) (stateAt Y lents n)
   related zero f =
-      inl (record { no-tick = refl; initially = refl; is-fresh = ap (λ (b : Advanced). b .state) (fresh-given (Y .tables) (sound .accepted)) })
+      inl (record { no-tick = refl; initially = refl; is-fresh = ap (λ (b : Advanced). b .state) (sym (fresh-accepted (Y .tables) (sound .accepted))) })
   related (suc n) f =
       one-tick n (configurationAt Y F lents n) (stateAt Y lents n) (lents n) (f n (omega arith)) (related n (λ k l. f k (omega arith))) .1
 
@@ -87,7 +75,7 @@ related-always Y a F lents n f = related Y a F lents n f
 -- the composed run is Giotto's
 pub composed-run : ComposedRun
 composed-run Y a =
-    (ap (λ (b : Advanced). b .number) (fresh-given (Y .tables) (accepted-sound Y a .accepted)), λ F lents n f. right Y a F lents n f)
+    (fresh-number (Y .tables) ∙ accepted-sound Y a .accepted, λ F lents n f. right Y a F lents n f)
 
 -- values do not hang on who computes when
 pub same-values : SameValues

@@ -73,7 +73,7 @@ accepted-sound Y a =
       accepted = windows-accepted lent (a .windows);
       fits = w .0;
       windows = w .1;
-      rows = joined-whole (Y .tables) (Y .parts) fits whole;
+      whole = joined-whole (Y .tables) (Y .parts) fits whole;
       joined = joined-fits (Y .tables) (Y .parts) fits whole;
       good = λ s m l k. subst (λ (C : Course). Good C (worstCase C) nothing)
           (sym (joined-course (Y .tables) (Y .parts) fits whole (Y .windows) s m l)) (worst-good (asked s) (a .suppliers s l) m k);

@@ -5,7 +5,7 @@ use mathlib.Core.Path.{_≡_, refl, ap, _∙_}
 use mathlib.Core.List.{List, _∷_, map}
 use native.Mathlib.Omega.{arith}
 use lib.ListN.{length, drop, length-append, length-drop}
-use lib.Seq.{take-at, drop-at}
+use lib.Seq.{drop-at}
 use Rattle.theory.specs.Verdict.{Refusal, within}
 use Rattle.theory.proofs.Bools.{bars-lt, _or_}
 use Rattle.theory.proofs.Verdict.{verdict-clear, verdict-both}
@@ -16,9 +16,9 @@ use Rattle.rules.proofs.Accepted.{lent-accepted}
 use Rattle.rules.proofs.Verdict.{program-first, program-accepted, missing-guard}
 use Rattle.code.specs.Op.{Op, emit, instructions}
 use Rattle.code.specs.Compile.{Compiling, listingOf, codeLong, sliceShort, sliceRefusals, compileVerdict, compileAnswer, compileSlice}
-use Rattle.code.proofs.Words.{emit-instructions, emit-length}
+use Rattle.code.proofs.Words.{emit-instructions, emit-length, words-are}
 use Rattle.code.proofs.Accepted.{accepted-length}
-use Rattle.demands.specs.Verdict.{VerdictExact, AcceptedExactly, MissingReading, wordsOf, ListingWritten, RefusalKeeps}
+use Rattle.demands.specs.Verdict.{VerdictExact, AcceptedExactly, MissingReading, ListingWritten, RefusalKeeps}
 
 -- the verdict is the number of the first rule that is broken
 pub verdict-exact : VerdictExact
@@ -45,13 +45,6 @@ unfolding compileVerdict own codeLong sliceShort
 fits L e =
     (bars-lt maxCode (length (listingOf (L .tables))) or bars-lt (length (L .slice)) (wordsEach * length (listingOf (L .tables)))) .ok
     (verdict-clear sliceRefusals L (omega arith) (verdict-both own sliceRefusals L (omega arith) e .1) .0)
-
--- the words that it leaves are those of the listing
-pub words-are : (L : Compiling) → compileVerdict L ≡ 0 → wordsOf L ≡ emit (listingOf (L .tables))
-words-are L e =
-    rw (e, compileAnswer, compileSlice)
-    (take-at (emit (listingOf (L .tables))) (drop (wordsEach * length (listingOf (L .tables))) (L .slice)) (wordsEach * length (listingOf (L .tables)))
-    (emit-length (listingOf (L .tables))))
 
 -- not refused: the listing is written, and nothing else
 pub listing-written : ListingWritten

@@ -13,12 +13,11 @@ use Rattle.program.specs.Tables.{taskCount}
 use Rattle.program.specs.Program.{Program, programOf, task, mode, dueTasks}
 use Rattle.rules.specs.Fields.{InRange}
 use Rattle.code.specs.Op.{instructions}
-use Rattle.code.specs.Compile.{Compiling, compileVerdict}
+use Rattle.code.specs.Compile.{Compiling, compileVerdict, wordsOf}
 use Rattle.runs.specs.Tick.{leftOf}
 use Rattle.machine.specs.declared.State.{State}
 use Rattle.machine.specs.Instant.{Outcome, ok, stop, runInstant}
 use Rattle.compiled.specs.Done.{tasksReleased, done, AtBlock}
-use Rattle.demands.specs.Verdict.{wordsOf}
 
 module _ (L : Compiling) (readings times : List ℤ) (m k : ℕ) (s : State) where
   abbrev P : Program

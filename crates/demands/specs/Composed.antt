@@ -10,7 +10,7 @@ use Rattle.cells.specs.Limits.{suppliers}
 use Rattle.program.specs.Tables.{Tables}
 use Rattle.program.specs.Program.{programOf}
 use Rattle.code.specs.Op.{emit}
-use Rattle.code.specs.Compile.{listingOf, Compiling, compileVerdict}
+use Rattle.code.specs.Compile.{listingOf, Compiling, compileVerdict, wordsOf}
 use Rattle.suppliers.specs.Windows.{windowsVerdict}
 use Rattle.suppliers.specs.Supplier.{supplierVerdict}
 use Rattle.giotto.specs.Instant.{Configuration, Function}
@@ -19,9 +19,8 @@ use Rattle.machine.specs.Advance.{Lent, freshAnswer, advanceAnswer}
 use Rattle.machine.specs.declared.State.{State}
 use Rattle.machine.specs.declared.Advanced.{Advanced}
 use Rattle.composed.specs.Sound.{Sound}
-use Rattle.composed.specs.Suited.{Suited}
+use Rattle.composed.specs.Suited.{byCompiled, Suited}
 use Rattle.composed.specs.Related.{Related}
-use Rattle.demands.specs.Verdict.{wordsOf}
 
 -- what is composed: the tables, the windows, each supplier's part of the schedule, and the slice that is lent for compiling
 pub record System : Type 0 where
@@ -98,7 +97,7 @@ RelationKept =
     → (F : Function) (n : ℕ) (C : Configuration) (s : State) (X : Lent)
     → Suited T (emit (listingOf T)) S F n C s X
     → Related T W S F n C s
-    → let a = advanceAnswer (record { tables = T; code = emit (listingOf T); schedule = S; state = s; lent = X }) in
+    → let a = advanceAnswer (byCompiled T S X s) in
     (a .number ≡ 0) × Related T W S F (suc n) (pass (programOf T) F n (X .readings) C) (a .state)
 
 -- and holds before every tick of a composed run

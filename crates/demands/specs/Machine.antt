@@ -5,7 +5,7 @@ use mathlib.Core.Path.{_≡_}
 use mathlib.Core.Logic.{_⊎_, _↔_}
 use lib.ListN.{length, getD}
 use Rattle.cells.specs.Limits.{wordsEach}
-use Rattle.code.specs.Op.{faulty}
+use Rattle.code.specs.Op.{Op, faulty}
 use Rattle.machine.specs.declared.State.{State}
 use Rattle.machine.specs.declared.At.{At}
 use Rattle.machine.specs.Instruction.{Faulty, TimeBad, StillRunning}
@@ -21,6 +21,10 @@ abbrev pub RunExact : Type 0
 RunExact =
     (L : Advance) → advanceVerdict L ≡ 0 → (n : ℕ) → 1 ≤ n → (advanceAnswer L .number ≡ n) ↔ (InstantStops L n ⊎ TickStops L n)
 
+-- the instruction at which the machine stands
+abbrev pub standing : Advance → At → Op
+standing L a = getD (code L) (a .address) faulty
+
 -- 17, in the words of document 01: the instant comes to an instruction that is neither faulty nor lent a bad time, and ends or releases
 -- a task that has time left
 pub record Overruns (L : Advance) : Type 0 where
@@ -29,9 +33,9 @@ pub record Overruns (L : Advance) : Type 0 where
   pub at : At
   pub in-count : before < length (code L)
   pub comes : Goes (program L) (L .lent .readings) (L .lent .times) (code L) before (begin L) at
-  pub not-faulty : Faulty (program L) (length (code L)) (at .planned) (getD (code L) (at .address) faulty) → ⊥
-  pub in-time : TimeBad (program L) (L .lent .times) (getD (code L) (at .address) faulty) → ⊥
-  pub still-running : StillRunning (at .state) (getD (code L) (at .address) faulty)
+  pub not-faulty : Faulty (program L) (length (code L)) (at .planned) (standing L at) → ⊥
+  pub in-time : TimeBad (program L) (L .lent .times) (standing L at) → ⊥
+  pub still-running : StillRunning (at .state) (standing L at)
 
 abbrev pub OverrunExact : Type 0
 OverrunExact = (L : Advance) → advanceVerdict L ≡ 0 → (advanceAnswer L .number ≡ 17) ↔ Overruns L

@@ -3,9 +3,8 @@
 -- Proved of these definitions in proofs/Verdict.antt. Assumes nothing.
 use Prim.Native.Nat.{ℕ, _*_, _≤_, _<_}
 use mathlib.Core.Path.{_≡_}
-use mathlib.Core.List.{List}
 use mathlib.Core.Logic.{_↔_}
-use lib.ListN.{length, take, drop}
+use lib.ListN.{length, drop}
 use Rattle.theory.specs.Verdict.{First, Keep}
 use Rattle.cells.specs.Reading.{noReading, Inside, Values}
 use Rattle.cells.specs.Limits.{maxCode, wordsEach}
@@ -14,7 +13,7 @@ use Rattle.program.specs.Program.{programOf}
 use Rattle.rules.specs.Verdict.{programVerdict, programRules}
 use Rattle.code.specs.Op.{instructions}
 use Rattle.code.specs.Listing.{lengthRule}
-use Rattle.code.specs.Compile.{Compiling, listingOf, compileVerdict, compileAnswer, compileSlice}
+use Rattle.code.specs.Compile.{Compiling, listingOf, compileVerdict, compileAnswer, compileSlice, wordsOf}
 
 -- (The numbers of a lent slice are of 32 bits; only those of the drivers table matter, in number 8's valuations.)
 -- The verdict is n exactly where rule n is broken and no earlier one is; so it is 0 exactly where every rule holds
@@ -29,10 +28,6 @@ abbrev pub MissingReading : Type 0
 MissingReading =
     (T : Tables) → Values (T .drivers) → programVerdict T ≡ 0 → (d : ℕ) → d < driverCount T → guardKind T d ≡ kindInterval
     → Inside (guardLow T d) noReading (guardHigh T d) → (guardLow T d ≡ noReading) × (guardHigh T d ≡ noReading)
-
--- the words that compiling leaves in the slice that it is lent
-abbrev pub wordsOf : Compiling → List ℕ
-wordsOf L = take (wordsEach * compileAnswer L .length) (compileSlice L)
 
 -- compiling, not refused: the length is 01's rule, the words written are those of the listing, the rest of the slice is as before
 pub record Compiles (L : Compiling) : Type 0 where

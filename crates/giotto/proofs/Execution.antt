@@ -1,7 +1,7 @@
 -- The execution is 001's: from the initial configuration, at each time stamp the successor configuration, and between two of them
 -- nothing changes; no time stamp is missed. Assumes the program's rules; the task functions and the readings are any.
 use Prim.Native.Nat.{ℕ, zero, suc, _/_, _≤_, _<_}
-use mathlib.Core.Path.{_≡_, _∙_}
+use mathlib.Core.Path.{_≡_, sym, subst, _∙_}
 use mathlib.Core.Bool.{Bool, true, false}
 use mathlib.Core.List.{List}
 use mathlib.Core.Option.{Option, none, some}
@@ -23,9 +23,9 @@ use Rattle.program.specs.Ports.{valueOf}
 use Rattle.program.proofs.Units.{units-some}
 use Rattle.rules.specs.Verdict.{programRules}
 use Rattle.rules.proofs.Timing.{ticks-some}
-use Rattle.giotto.specs.Instant.{Configuration, enter, sensed, switchOf, instant, Function, results}
+use Rattle.giotto.specs.Instant.{Configuration, enter, sensed, switchOf, instant, released, Function, results}
 use Rattle.giotto.specs.Successor.{Successor}
-use Rattle.giotto.specs.Execution.{pass, execution}
+use Rattle.giotto.specs.Execution.{pass, releasedBy, execution}
 use Rattle.giotto.proofs.Succeeds.{instant-succeeds}
 use Rattle.giotto.proofs.Released.{instant-mode}
 
@@ -37,6 +37,18 @@ instant-ports P result readings C = go (switchOf P C (sensed P result readings C
     go : (s : Option Switch) → length (enter P C s (sensed P result readings C) .ports) ≡ length (C .ports)
     go none = simp puts-length
     go (some w) = simp puts-length
+
+module _ (P : Program) (F : Function) (n : ℕ) (readings : List ℤ) (C : Configuration) where
+  -- at its time stamp a configuration goes on to the next, and releases tasks
+  pub pass-goes : C .time ≡ n → pass P F n readings C ≡ instant P (results P F (C .ports)) readings C
+  pass-goes e = rw (eq-eqb (C .time) n e, pass)
+
+  pub releases-then : C .time ≡ n → releasedBy P F n readings C ≡ released P (results P F (C .ports)) readings C
+  releases-then e = rw (eq-eqb (C .time) n e, releasedBy)
+
+  -- at any other tick it stays
+  pub pass-stays : (C .time ≡ n → ⊥) → pass P F n readings C ≡ C
+  pass-stays d = rw (ne-eqb (C .time) n d, pass)
 
 -- all ports are there, the mode is declared, and the unit is one of its
 pub record Proper (T : Tables) (C : Configuration) : Type 0 where
@@ -76,11 +88,12 @@ module _ (T : Tables) (K : Keep programRules T) (F : Function) (readings : ℕ �
 
   -- at a time stamp it goes on to the successor configuration
   pub execution-succeeds : (n : ℕ) → at n .time ≡ n → Successor T (gives n) (valueOf (readings n)) (at n) (at (suc n))
-  execution-succeeds n e = rw (eq-eqb (at n .time) n e, pass) (succeeds n (execution-keeps n))
+  execution-succeeds n e =
+      subst (Successor T (gives n) (valueOf (readings n)) (at n)) (sym (pass-goes (programOf T) F n (readings n) (at n) e)) (succeeds n (execution-keeps n))
 
   -- at any other tick nothing changes
   pub execution-waits : (n : ℕ) → (at n .time ≡ n → ⊥) → at (suc n) ≡ at n
-  execution-waits n d = rw (ne-eqb (at n .time) n d, pass)
+  execution-waits n d = pass-stays (programOf T) F n (readings n) (at n) d
 
   -- the next time stamp is never past: so none is missed
   pub time-ahead : (n : ℕ) → n ≤ at n .time

@@ -1,25 +1,23 @@
 -- What the table of delays says: at every address the delay of the `future` there, and 0 where none stands. The delays of an accepted
 -- program are from 1 to the limit, so 0 says that none stands there; and each is one unit's ticks of a declared mode.
 -- Assumes that the code has no more than the most instructions; of the delays, that the program is accepted.
-use Prim.Native.Nat.{ℕ, zero, suc, _+_, _/_, _≤_, _<_}
+use Prim.Native.Nat.{ℕ, zero, suc, _+_, _≤_, _<_}
 use mathlib.Core.Path.{_≡_, refl, sym, ap, _∙_}
 use mathlib.Core.List.{List, [], _∷_}
 use mathlib.Core.Logic.{_↔_}
 use mathlib.Core.Option.{Option, none, some}
-use native.Mathlib.Nat.{add-zero, zero-add, div-le-self}
+use native.Mathlib.Nat.{add-zero, zero-add}
 use native.Mathlib.Omega.{arith}
 use lib.ListN.{length, getD, replicate, length-set, length-replicate}
 use lib.Seq.{getD-set-same, getD-set-other}
 use Rattle.theory.proofs.Filled.{zeros-at}
 use Rattle.cells.specs.Cell.{wordAt}
 use Rattle.cells.specs.Limits.{maxCode, maxDelay}
-use Rattle.program.specs.Tables.{Tables, modeCount, modePeriod}
-use Rattle.program.specs.Units.{units}
-use Rattle.program.specs.Program.{programOf, ticksOf}
-use Rattle.program.proofs.Decoded.{mode-count, mode-row}
+use Rattle.program.specs.Tables.{Tables}
+use Rattle.program.specs.Program.{programOf}
+use Rattle.program.proofs.Decoded.{mode-count}
 use Rattle.rules.specs.Verdict.{programVerdict}
-use Rattle.rules.proofs.Timing.{ticks-some}
-use Rattle.rules.proofs.Accepted.{accepted-fields, accepted-units-fit}
+use Rattle.rules.proofs.Accepted.{accepted-ticks}
 use Rattle.code.specs.Op.{Op}
 use Rattle.code.specs.Compile.{listingOf, futureDelay, delayAt}
 use Rattle.code.proofs.Futures.{FutureOf, future-of}
@@ -77,12 +75,8 @@ module _ (T : Tables) (v : programVerdict T ≡ 0) where
   pub delay-in-range : (a d : ℕ) → delayAt (listingOf T) a ≡ some d → (1 ≤ d) × (d ≤ maxDelay)
   delay-in-range a d e =
       let w = delay-of T a d e in
-      let own : w .own < modeCount T = omega (arith, w .declared, mode-count T) in
-      let f = accepted-fields T v in
-      let q : d ≡ modePeriod T (w .own) / units T (w .own) = w .delay ∙ ap ticksOf (mode-row T (w .own) own) in (
-        omega (arith, ticks-some T f (accepted-units-fit T v) (w .own) own),
-        omega (arith, div-le-self (modePeriod T (w .own)) (units T (w .own)), f .modes (w .own) own .1),
-      )
+      let r = accepted-ticks T v (w .own) (omega (arith, w .declared, mode-count T)) in
+      (omega (arith, w .delay, r .0), omega (arith, w .delay, r .1))
 
   -- so where the table says 0, no `future` stands
   pub zero-none : length (listingOf T) ≤ maxCode → (a : ℕ)

@@ -1,13 +1,38 @@
--- What an advance answers: a number that is given before anything runs, with the state as it was, or what its step comes to.
+-- What the two calls answer. A fresh state: a number, and all 0, or the first values. An advance: a number that is given before anything
+-- runs, with the state as it was, or what its step comes to.
 -- Assumes nothing.
 use Prim.Native.Nat.{ℕ, zero, suc, _<_}
 use mathlib.Core.Path.{_≡_, sym, ap}
 use native.Mathlib.Omega.{arith}
+use lib.IntN.{pos}
+use lib.ListN.{replicate}
+use Rattle.cells.specs.Limits.{maxPorts}
+use Rattle.program.specs.Tables.{Tables}
 use Rattle.program.specs.Program.{programOf}
+use Rattle.rules.specs.Verdict.{programVerdict}
 use Rattle.code.specs.Op.{instructions}
 use Rattle.machine.specs.declared.Advanced.{Advanced}
 use Rattle.machine.specs.Instant.{Outcome}
-use Rattle.machine.specs.Advance.{Advance, step, answer, advanceVerdict, advanceAnswer}
+use Rattle.machine.specs.Advance.{stateOf, freshAnswer, Advance, step, answer, advanceVerdict, advanceAnswer}
+
+module _ (T : Tables) where
+  -- what a fresh state is where the verdict is n
+  abbrev begun : ℕ → Advanced
+  begun n = elim n [
+    | zero ↦ record { number = 0; state = stateOf (programOf T .first) }
+    | suc k ↦ record { number = suc k; state = stateOf (replicate maxPorts (pos 0)) }
+  ]
+
+  -- a program that is refused: all 0
+  pub fresh-refused : (n : ℕ) → n ≡ programVerdict T → 0 < n → record { number = n; state = stateOf (replicate maxPorts (pos 0)) } ≡ freshAnswer T
+  unfolding freshAnswer
+  fresh-refused zero e l = absurd (omega arith)
+  fresh-refused (suc n) e l = ap begun e
+
+  -- one that is accepted: the first values
+  pub fresh-accepted : programVerdict T ≡ 0 → record { number = 0; state = stateOf (programOf T .first) } ≡ freshAnswer T
+  unfolding freshAnswer
+  fresh-accepted e = ap begun (sym e)
 
 module _ (L : Advance) where
   -- what an advance runs

@@ -1,11 +1,15 @@
 -- The local outputs after a tick of a task: where it completes, and where it does not.
 -- Assumes, of a task that completes, that it is declared.
 use Prim.Native.Nat.{ℕ, _<_}
-use mathlib.Core.Path.{_≡_, sym, ap, _∙_}
+use mathlib.Core.Path.{_≡_, refl, sym, ap, _∙_}
+use mathlib.Core.Bool.{Bool, true, false}
 use mathlib.Core.List.{List}
+use lib.Dec.{eqb}
 use lib.IntN.{ℤ}
+use lib.ListN.{length}
 use borrow.Author.Tests.{eq-eqb, ne-eqb}
 use Rattle.theory.specs.Lists.{puts}
+use Rattle.theory.proofs.Puts.{puts-length}
 use Rattle.program.specs.Tables.{Tables, output, taskCount}
 use Rattle.program.specs.Program.{Program, Task, portsOf, programOf, task}
 use Rattle.program.specs.Ports.{valueOf, takes}
@@ -22,6 +26,15 @@ outputs-done P results s t e = rw (eq-eqb (leftOf (s .left) t) 1 e, outputsAfter
 -- in any other tick the local outputs are as before
 pub outputs-same : (P : Program) (results : List ℤ) (s : State) (t : ℕ) → (leftOf (s .left) t ≡ 1 → ⊥) → outputsAfter P results s t ≡ s .outputs
 outputs-same P results s t n = rw (ne-eqb (leftOf (s .left) t) 1 n, outputsAfter)
+
+-- there are as many local outputs after it
+pub outputs-length : (P : Program) (results : List ℤ) (s : State) (t : ℕ) → length (outputsAfter P results s t) ≡ length (s .outputs)
+outputs-length P results s t = go (eqb (leftOf (s .left) t) 1)
+  where
+    go : (b : Bool) → length {A = ℤ} (elim b [ true ↦ puts (takes (valueOf results) (task P t .outputs)) (s .outputs) | false ↦ s .outputs ])
+        ≡ length (s .outputs)
+    go true = puts-length (takes (valueOf results) (task P t .outputs)) (s .outputs)
+    go false = refl
 
 -- the outputs of a declared task are those of its rows
 pub completes : (T : Tables) (results : List ℤ) (s : State) (t : ℕ) → t < taskCount T → leftOf (s .left) t ≡ 1

@@ -1,45 +1,24 @@
 -- What a fresh state and the two parts of a step answer. Where the E part of an advance is not refused, the
 -- state before the tick is within its limits. Assumes nothing; of that state, that the one handed in is.
-use Prim.Native.Nat.{ℕ, zero, suc, _≤_, _<_}
+use Prim.Native.Nat.{_≤_, _<_}
 use mathlib.Core.Path.{_≡_, refl, sym, ap, subst, _∙_}
 use mathlib.Core.List.{List}
 use mathlib.Core.Logic.{_⊎_, inl, inr}
 use native.Mathlib.Omega.{arith}
-use lib.IntN.{ℤ, pos}
-use lib.ListN.{length, replicate}
-use Rattle.cells.specs.Limits.{maxPorts, maxElapsed}
-use Rattle.program.specs.Tables.{Tables}
-use Rattle.program.specs.Program.{Program, programOf}
-use Rattle.rules.specs.Verdict.{programVerdict}
+use lib.IntN.{ℤ}
+use lib.ListN.{length}
+use Rattle.cells.specs.Limits.{maxElapsed}
+use Rattle.program.specs.Program.{Program}
 use Rattle.code.specs.Op.{Op}
 use Rattle.machine.specs.declared.State.{State}
 use Rattle.machine.specs.declared.Advanced.{Advanced}
 use Rattle.machine.specs.Instant.{Outcome, ok, stop, startAt, Ends}
 use Rattle.machine.specs.Schedules.{tickAll}
-use Rattle.machine.specs.Advance.{Lent, stateOf, ready, step, answer, freshAnswer}
+use Rattle.machine.specs.Advance.{Lent, ready, step, answer}
 use Rattle.machine.proofs.Collide.{tick-refused}
 use Rattle.machine.proofs.Ready.{ready-leaves, goes}
 use Rattle.machine.proofs.Refusals.{ready-number}
 use Rattle.machine.proofs.Kept.{instant-keeps}
-
-module _ (T : Tables) where
-  -- what a fresh state is where the verdict is n
-  abbrev begun : ℕ → Advanced
-  begun n = elim n [
-    | zero ↦ record { number = 0; state = stateOf (programOf T .first) }
-    | suc k ↦ record { number = suc k; state = stateOf (replicate maxPorts (pos 0)) }
-  ]
-
-  -- a program that is refused: all 0
-  pub fresh-refused : (n : ℕ) → n ≡ programVerdict T → 0 < n → record { number = n; state = stateOf (replicate maxPorts (pos 0)) } ≡ freshAnswer T
-  unfolding freshAnswer
-  fresh-refused zero e l = absurd (omega arith)
-  fresh-refused (suc n) e l = ap begun e
-
-  -- one that is accepted: the first values
-  pub fresh-accepted : programVerdict T ≡ 0 → record { number = 0; state = stateOf (programOf T .first) } ≡ freshAnswer T
-  unfolding freshAnswer
-  fresh-accepted e = ap begun (sym e)
 
 module _ (P : Program) (code : List Op) (readings times : List ℤ) (s : State) where
   -- the answer 0 tells the state before the tick

@@ -1,22 +1,23 @@
 -- The rules that an accepted program keeps, whatever its numbers are: all but number 8, which asks for numbers of 32 bits.
 -- Assumes that the verdict on the tables is 0, or that a call that is lent more than the tables is not refused.
-use Prim.Native.Nat.{ℕ, _≤_, _<_}
-use mathlib.Core.Path.{_≡_}
+use Prim.Native.Nat.{ℕ, _/_, _≤_, _<_}
+use mathlib.Core.Path.{_≡_, ap}
 use mathlib.Core.Bool.{Bool, true, false}
 use mathlib.Core.List.{List, _∷_, _++_, map}
+use native.Mathlib.Nat.{div-le-self}
 use native.Mathlib.Omega.{arith}
 use Rattle.theory.specs.Lists.{member}
 use Rattle.theory.specs.Verdict.{Refusal, within, verdict}
 use Rattle.theory.proofs.Members.{member-says}
 use Rattle.theory.proofs.Verdict.{Clear, verdict-clear, clear-verdict, verdict-both}
-use Rattle.cells.specs.Limits.{maxUnits}
-use Rattle.program.specs.Tables.{Tables, taskCount, modeCount}
+use Rattle.cells.specs.Limits.{maxPeriod, maxUnits}
+use Rattle.program.specs.Tables.{Tables, taskCount, modeCount, modePeriod}
 use Rattle.program.specs.Units.{units, Units}
-use Rattle.program.specs.Program.{programOf, mode, dueTasks}
+use Rattle.program.specs.Program.{programOf, mode, ticksOf, dueTasks}
 use Rattle.program.proofs.Units.{units-least}
-use Rattle.program.proofs.Decoded.{has-tasks}
+use Rattle.program.proofs.Decoded.{mode-row, has-tasks}
 use Rattle.rules.specs.Shape.{shapeBad, Shaped}
-use Rattle.rules.specs.Fields.{Fields}
+use Rattle.rules.specs.Fields.{InRange, Fields}
 use Rattle.rules.specs.Declared.{TaskPorts, Copies, ModePorts}
 use Rattle.rules.specs.Modes.{Invocations, Updates}
 use Rattle.rules.specs.Timing.{UnitsFit, Whole}
@@ -25,7 +26,7 @@ use Rattle.rules.proofs.Shape.{shape-bars}
 use Rattle.rules.proofs.Fields.{fields-bar}
 use Rattle.rules.proofs.Declared.{task-ports-bar, copies-bar, mode-ports-bar}
 use Rattle.rules.proofs.Modes.{invocations-bar, updates-bar}
-use Rattle.rules.proofs.Timing.{units-bar, whole-bars, units-few}
+use Rattle.rules.proofs.Timing.{units-bar, whole-bars, units-few, ticks-some}
 
 module _ (T : Tables) (a : programVerdict T ≡ 0) where
   -- no test of the verdict applies
@@ -76,6 +77,14 @@ module _ (T : Tables) (a : programVerdict T ≡ 0) where
   -- they are the least common multiple of its frequencies
   pub accepted-least : (m : ℕ) → m < modeCount T → Units T m (units T m)
   accepted-least m l = units-least T m (accepted-units m l)
+
+  -- a unit of a declared mode has a tick, and no more than the longest period
+  pub accepted-ticks : (m : ℕ) → m < modeCount T → InRange (ticksOf (mode (programOf T) m)) maxPeriod
+  accepted-ticks m l =
+      let e : ticksOf (mode (programOf T) m) ≡ modePeriod T m / units T m = ap ticksOf (mode-row T m l) in (
+        omega (arith, e, ticks-some T accepted-fields accepted-units-fit m l),
+        omega (arith, e, div-le-self (modePeriod T m) (units T m), accepted-fields .modes m l .1),
+      )
 
   -- a task that is due in a declared mode is declared
   pub due-declared : (m k t : ℕ) → m < modeCount T → member t (dueTasks (mode (programOf T) m) k) ≡ true → t < taskCount T

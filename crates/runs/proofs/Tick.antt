@@ -72,6 +72,11 @@ after-less (run t) r j = go (ℕ-discrete j t)
     go (yes q) = rw q (omega (arith, one-less r t))
     go (no q) = rw (getD-set-other r t j (leftOf r t - 1) 0 q) (omega arith)
 
+-- who does not run leaves the remaining times as they are
+pub rests : (a : Act) (left : List ℕ) → runs a ≡ false → left ≡ after a left
+rests rest left e = refl
+rests (run t) left e = clash {b = true} refl e
+
 -- a row that runs a job is a dispatch of it
 does-run : (k : Kind) (j t : ℕ) → does k j ≡ run t → (k ≡ dispatch) × (j ≡ t)
 does-run dispatch j t h = (refl, cc h)

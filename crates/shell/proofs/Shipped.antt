@@ -1,17 +1,16 @@
 -- What is printed of the answer to what was read is what document 01 has the program print.
 -- Assumes nothing.
 use Prim.Native.Nat.{ℕ, zero, suc, _*_}
-use mathlib.Core.Path.{_≡_, refl, ap, _∙_}
+use mathlib.Core.Path.{_≡_, refl, sym, ap, _∙_}
 use mathlib.Core.List.{List, _++_, append-nil}
 use mathlib.Core.Option.{Option}
 use lib.IntN.{ℤ}
-use lib.ListN.{length, take, drop, replicate}
-use lib.Seq.{take-at}
+use lib.ListN.{replicate}
 use Rattle.cells.specs.Limits.{maxCode, wordsEach}
 use Rattle.program.specs.Tables.{Tables}
-use Rattle.code.specs.Op.{emit, instructions}
-use Rattle.code.specs.Compile.{Compiling, listingOf, compileVerdict, compileAnswer, compileSlice}
-use Rattle.code.proofs.Words.{emit-instructions, emit-length}
+use Rattle.code.specs.Op.{instructions}
+use Rattle.code.specs.Compile.{Compiling, listingOf, compileVerdict, compileAnswer, compileSlice, wordsOf}
+use Rattle.code.proofs.Words.{emit-instructions, words-are}
 use Rattle.text.specs.Listing.{listingText}
 use Rattle.text.specs.Input.{Read, bad, tooMany, got, program}
 use Rattle.text.specs.Shipped.{verdictLine, answered, printed, shipped}
@@ -25,13 +24,14 @@ compiled-text T rest = go (compileVerdict L) refl
     L : Compiling
     L = record { tables = T; slice = replicate (wordsEach * maxCode) 0 }
 
+    number : compileVerdict L ≡ 0 → compileAnswer L .number ≡ 0
+    number e = rw (e, compileAnswer)
+
     go : (n : ℕ) → compileVerdict L ≡ n
-        → verdictLine (compileAnswer L .number) ++ listingText (instructions (take (wordsEach * compileAnswer L .length) (compileSlice L))) ≡ answered T (compileVerdict L)
+        → verdictLine (compileAnswer L .number) ++ listingText (instructions (wordsOf L)) ≡ answered T (compileVerdict L)
     go zero e =
-        rw (e, compileAnswer, compileSlice)
-        (ap (λ l. verdictLine 0 ++ listingText l)
-        (ap instructions (take-at (emit (listingOf T)) (drop (wordsEach * length (listingOf T)) (L .slice)) (wordsEach * length (listingOf T)) (emit-length (listingOf T)))
-        ∙ emit-instructions (listingOf T)))
+        (λ i. verdictLine (number e i) ++ listingText (instructions (words-are L e i)))
+        ∙ ap (λ l. verdictLine 0 ++ listingText l) (emit-instructions (listingOf T)) ∙ ap (answered T) (sym e)
     go (suc n) e = rw (e, compileAnswer, compileSlice) (append-nil (verdictLine (suc n)))
 
 -- what is printed of what is answered is what the definition says, whatever was read

@@ -1,20 +1,21 @@
 -- What has its shape; a supplier's part that is not refused by 1 to 13: the program is accepted, and every task of it that is released
 -- is declared and takes time. Assumes that the verdict on the part is 0; of `windows-accepted` and `part-after`, that the windows
--- verdict is; of `own-declared`, that the program is accepted; of what has its shape, that number 1 does not apply.
+-- verdict is; of `own-declared` and `owner-declared`, that the program is accepted; of what has its shape, that number 1 does not apply.
 use Prim.Native.Nat.{ℕ, _<_}
-use mathlib.Core.Path.{_≡_, sym, _∙_}
-use mathlib.Core.Bool.{true, false, _||_}
+use mathlib.Core.Path.{_≡_, sym, ap, subst, _∙_}
+use mathlib.Core.Bool.{Bool, true, false, _&&_, _||_}
 use mathlib.Core.List.{List, [], _∷_, _++_, map}
 use native.Mathlib.Omega.{arith}
 use lib.Dec.{eqb}
+use borrow.Author.Tests.{eq-eqb}
 use Rattle.theory.specs.Lists.{member}
 use Rattle.theory.specs.Verdict.{Refusal, orElse, within}
 use Rattle.theory.proofs.Bools.{neither, says-itself, _and_}
 use Rattle.theory.proofs.Verdict.{verdict-clear, verdict-skip}
 use Rattle.theory.proofs.Members.{member-keep}
-use Rattle.cells.specs.Limits.{maxWindows, maxPart}
+use Rattle.cells.specs.Limits.{suppliers, maxWindows, maxPart}
 use Rattle.program.specs.Tables.{Tables, modeCount, taskCount}
-use Rattle.program.specs.Program.{programOf, task, mode, dueTasks}
+use Rattle.program.specs.Program.{Program, Task, programOf, task, mode, dueTasks}
 use Rattle.program.proofs.Decoded.{task-row}
 use Rattle.rules.specs.Shape.{badSlice, shapeBad}
 use Rattle.rules.specs.Verdict.{tableRefusals, programVerdict}
@@ -56,6 +57,15 @@ part-after L e =
     let c = verdict-clear windowsRefusals (windowedOf L) (omega arith) e in
     λ i. orElse (c .0 i || badSlice scheduleWidth maxPart (L .part)) 1
     (verdict-skip between (record { number = 13; applies = λ L. partBad (L .tables) (L .part) (supplierOf L) } ∷ []) L (c .1) i)
+
+-- of a supplier's own tasks among some, a task of it is one exactly where it is among them
+pub own-member : (P : Program) (j t : ℕ) (ts : List ℕ) → task P t .supplier ≡ j → member t (ownTasks P j ts) ≡ member t ts
+own-member P j t ts o =
+    member-keep (λ x. eqb (task P x .supplier) j) t ts ∙ ap (λ (b : Bool). b && member t ts) (eq-eqb (task P t .supplier) j o)
+
+-- a declared task's supplier is one of the suppliers
+pub owner-declared : (T : Tables) → programVerdict T ≡ 0 → (t : ℕ) → t < taskCount T → task (programOf T) t .supplier < suppliers
+owner-declared T a t l = subst (λ (K : Task). K .supplier < suppliers) (sym (task-row T t l)) (accepted-fields T a .tasks t l .supplier)
 
 -- a task of a supplier that is due in a declared mode of an accepted program is declared
 pub own-declared : (T : Tables) → programVerdict T ≡ 0 → (s m k j : ℕ) → m < modeCount T

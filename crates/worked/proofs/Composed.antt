@@ -23,7 +23,7 @@ use Rattle.suppliers.proofs.Accepted.{windows-accepted}
 use Rattle.giotto.proofs.Released.{released-declared}
 use Rattle.machine.specs.declared.State.{State}
 use Rattle.machine.specs.Instant.{ok}
-use Rattle.machine.specs.Advance.{stateOf}
+use Rattle.machine.specs.Advance.{Lent, stateOf}
 use Rattle.compiled.specs.Done.{modeEntered, tasksReleased, done, AtBlock}
 use Rattle.composed.specs.Related.{Related}
 use Rattle.demands.specs.Compiled.{instantOf}
@@ -38,9 +38,20 @@ use Rattle.worked.specs.Systems.{F-system, monitor-system, mix, readings
 use Rattle.worked.proofs.Runs.{F-accepted, monitor-accepted}
 use Rattle.worked.proofs.Instances.{F-fair}
 
+-- what is lent to the ticks of F, with the longest execution times and with the shortest, and to those of the monitor, with readings that
+-- are missing at ticks 4 and 6, so that its switches are taken
+abbrev F-lent : ℕ → Lent
+F-lent = supplied F-system mix readings (λ k. worstTimes (programOf (F-system .tables)))
+
+abbrev F-lent-early : ℕ → Lent
+F-lent-early = supplied F-system mix readings (times (1 ∷ 1 ∷ []))
+
+abbrev monitor-lent : ℕ → Lent
+monitor-lent = supplied monitor-system mix gaps (λ k. worstTimes (programOf (monitor-system .tables)))
+
 -- F: every tick is accepted, and all ports hold Giotto's values after it
-pub F-right : (n : ℕ) → Right F-system mix (supplied F-system mix readings (λ k. worstTimes (programOf (F-system .tables)))) n
-F-right n = composed-run F-system F-accepted .1 mix (supplied F-system mix readings (λ k. worstTimes (programOf (F-system .tables)))) n (λ k l. F-fair k)
+pub F-right : (n : ℕ) → Right F-system mix F-lent n
+F-right n = composed-run F-system F-accepted .1 mix F-lent n (λ k l. F-fair k)
 
 -- with the shortest execution times too, and the ports are the same at every tick
 one-tick : (t : ℕ) → t < taskCount (F 6 2) → InRange (numAt (times (1 ∷ 1 ∷ []) 0) t) (task (programOf (F 6 2)) t .worst)
@@ -49,20 +60,20 @@ one-tick zero l = (omega arith, omega arith)
 one-tick (suc zero) l = (omega arith, omega arith)
 one-tick (suc (suc t)) l = absurd (omega arith)
 
-F-early : (n : ℕ) → Fair F-system mix (supplied F-system mix readings (times (1 ∷ 1 ∷ []))) n
+F-early : (n : ℕ) → Fair F-system mix F-lent-early n
 F-early n =
     let a = windows-accepted _ (F-accepted .windows) in
     premises-met F-system mix readings (times (1 ∷ 1 ∷ [])) (F-accepted .windows) (λ k. refl) (λ k. refl)
     (λ k t m. one-tick t (released-declared (F 6 2) (accepted-fields (F 6 2) a) mix readings k t m)) n
 
 pub F-same-values : (n : ℕ)
-    → stateAt F-system (supplied F-system mix readings (λ k. worstTimes (programOf (F-system .tables)))) (suc n) .ports
-    ≡ stateAt F-system (supplied F-system mix readings (times (1 ∷ 1 ∷ []))) (suc n) .ports
+    → stateAt F-system F-lent (suc n) .ports
+    ≡ stateAt F-system F-lent-early (suc n) .ports
 F-same-values n =
-    same-values F-system F-system F-accepted F-accepted refl mix (supplied F-system mix readings (λ k. worstTimes (programOf (F-system .tables))))
-    (supplied F-system mix readings (times (1 ∷ 1 ∷ []))) (λ k. refl) n (λ k l. F-fair k) (λ k l. F-early k)
+    same-values F-system F-system F-accepted F-accepted refl mix F-lent
+    F-lent-early (λ k. refl) n (λ k l. F-fair k) (λ k l. F-early k)
 
--- the monitor, with readings that are missing at ticks 4 and 6, so that its switches are taken
+-- the monitor
 gaps-whole : (n : ℕ) → length (gaps n) ≡ maxPorts
 gaps-whole n = go (eqb n 4) (eqb n 6)
   where
@@ -76,21 +87,21 @@ gaps-whole n = go (eqb n 4) (eqb n 6)
     go false true = refl
     go false false = refl
 
-pub monitor-fair : (n : ℕ) → Fair monitor-system mix (supplied monitor-system mix gaps (λ k. worstTimes (programOf (monitor-system .tables)))) n
+pub monitor-fair : (n : ℕ) → Fair monitor-system mix monitor-lent n
 monitor-fair n = worst-case-fair monitor-system (monitor-accepted .windows) mix gaps gaps-whole n
 
-pub monitor-right : (n : ℕ) → Right monitor-system mix (supplied monitor-system mix gaps (λ k. worstTimes (programOf (monitor-system .tables)))) n
+pub monitor-right : (n : ℕ) → Right monitor-system mix monitor-lent n
 monitor-right n =
-    composed-run monitor-system monitor-accepted .1 mix (supplied monitor-system mix gaps (λ k. worstTimes (programOf (monitor-system .tables)))) n
+    composed-run monitor-system monitor-accepted .1 mix monitor-lent n
     (λ k l. monitor-fair k)
 
 -- and its states are related to Giotto's configurations
 pub monitor-related : (n : ℕ)
     → Related (monitor-system .tables) (monitor-system .windows) (joined monitor-system) mix n
-    (configurationAt monitor-system mix (supplied monitor-system mix gaps (λ k. worstTimes (programOf (monitor-system .tables)))) n)
-    (stateAt monitor-system (supplied monitor-system mix gaps (λ k. worstTimes (programOf (monitor-system .tables)))) n)
+    (configurationAt monitor-system mix monitor-lent n)
+    (stateAt monitor-system monitor-lent n)
 monitor-related n =
-    related-always monitor-system monitor-accepted mix (supplied monitor-system mix gaps (λ k. worstTimes (programOf (monitor-system .tables)))) n
+    related-always monitor-system monitor-accepted mix monitor-lent n
     (λ k l. monitor-fair k)
 
 -- The monitor at the block of mode 0 and unit 0, all tasks ended, and no reading: mode 1 is entered, and task 1 released

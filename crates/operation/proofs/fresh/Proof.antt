@@ -9,7 +9,7 @@ use Rattle.program.specs.Tables.{Tables, tables}
 use Rattle.rules.specs.Verdict.{programVerdict}
 use Rattle.machine.specs.declared.State.{State}
 use Rattle.machine.specs.Advance.{stateOf}
-use Rattle.operation.proofs.Answers.{fresh-refused, fresh-accepted}
+use Rattle.machine.proofs.Answered.{fresh-refused, fresh-accepted}
 use Rattle.operation.proofs.fresh.Statement.{statement}
 use Rattle.operation.proofs.fresh.Tie as tie
 
