@@ -2,16 +2,16 @@
 -- Assumes nothing.
 use Prim.Native.Nat.{_<_}
 use mathlib.Core.Path.{_≡_, refl}
-use mathlib.Core.Bool.{false}
+use mathlib.Core.Bool.{true, false}
 use native.Mathlib.Omega.{arith}
 use lib.IntN.{ℤ, pos, negsuc}
 use lib.Signed.{mag}
 use borrow.Author.Tests.{le-leb}
 use Rattle.theory.specs.Claim.{Says}
 use Rattle.theory.specs.Order.{_≤Z_}
-use Rattle.theory.proofs.Bools.{says-and}
+use Rattle.theory.proofs.Bools.{is-true, says-and}
 use Rattle.theory.proofs.Order.{leZ-says}
-use Rattle.cells.specs.Reading.{noReading, inside, isMissing, Inside, Value}
+use Rattle.cells.specs.Reading.{noReading, inside, isMissing, Inside, greatest, Value, isValue}
 use Rattle.cells.proofs.Ints.{eqZ-says, le-antisym}
 
 -- the test of an interval says that the reading lies in it
@@ -37,7 +37,15 @@ missing-outside = refl
 pub value-least : (z : ℤ) → Value z → noReading ≤Z z
 value-least z v = v .0
 
+-- the test of a value says that it is of 32 bits
+pub value-says : (z : ℤ) → Says (isValue z) (Value z)
+unfolding isValue
+value-says z = says-and (leZ-says noReading z) (leZ-says z greatest)
+
 -- every i32 is a value
 pub fits-value : (z : ℤ) → mag z < 2147483648 → Value z
 fits-value (pos n) f = (refl, le-leb n 2147483647 (omega arith))
 fits-value (negsuc n) f = (le-leb n 2147483647 (omega arith), refl)
+
+pub fits-is-value : (z : ℤ) → mag z < 2147483648 → isValue z ≡ true
+fits-is-value z f = is-true (value-says z) (fits-value z f)

@@ -1,12 +1,10 @@
 -- A reading, and when it lies in an interval. A missing reading is the least number of 32 bits.
 -- Assumes nothing.
-use Prim.Native.Nat.{ℕ}
 use mathlib.Core.Bool.{Bool, _&&_}
-use mathlib.Core.List.{List}
 use lib.IntN.{ℤ, pos, negsuc}
 use lib.Signed.{leZ}
 use Rattle.theory.specs.Order.{_≤Z_}
-use Rattle.cells.specs.Cell.{cellAt, eqZ}
+use Rattle.cells.specs.Cell.{eqZ}
 
 -- -2147483648
 abbrev pub noReading : ℤ
@@ -23,13 +21,13 @@ isMissing value = eqZ value noReading
 abbrev pub Inside : ℤ → ℤ → ℤ → Type 0
 Inside low value high = (low ≤Z value) × (value ≤Z high)
 
--- a signed number of 32 bits
+-- "a value is a signed 32-bit number"
 abbrev pub greatest : ℤ
 greatest = pos 2147483647
 
 abbrev pub Value : ℤ → Type 0
 Value z = (noReading ≤Z z) × (z ≤Z greatest)
 
--- every number of a table is one, as it is in a lent slice
-abbrev pub Values : List ℤ → Type 0
-Values t = (i : ℕ) → Value (cellAt t i)
+-- the test of it
+unfoldable pub isValue : ℤ → Bool
+isValue z = leZ noReading z && leZ z greatest

@@ -9,7 +9,7 @@ use lib.IntN.{ℤ}
 use Rattle.cells.specs.Limits.{suppliers}
 use Rattle.program.specs.Tables.{Tables}
 use Rattle.program.specs.Program.{Program, programOf, mode, ticksOf}
-use Rattle.runs.specs.Tick.{runs, doing}
+use Rattle.runs.specs.Tick.{runs, runsIn}
 use Rattle.runs.specs.Windows.{inWindow}
 use Rattle.runs.specs.Schedule.{blockOf}
 use Rattle.runs.proofs.Tick.{tick-runs}
@@ -39,7 +39,7 @@ module _ (T : Tables) (W S : List ℤ) (F : Function) (sound : Sound T W S) (k n
       let e = tick-runs (OwnedBy P j) (blockOf S j (u .current)) (u .elapsed) (placeOf S u j) d
       (own-rows T S (sound .joined .rows) j (u .current)) (h .ahead j l) r in
       sound .good j (C .mode) l (h .declared) .inside k (u .elapsed) (h .in-round) (omega (arith, h .ticks))
-      (subst (λ (a : ℕ). runs (doing (blockOf S j a) (u .elapsed) d) ≡ true) (h .current) e)
+      (subst (λ (a : ℕ). runsIn (blockOf S j a) (u .elapsed) d ≡ true) (h .current) e)
 
   -- two that run are one
   pub one-runs : (i j : ℕ) → i < suppliers → j < suppliers → runs (actOf S u i) ≡ true → runs (actOf S u j) ≡ true → i ≡ j

@@ -17,7 +17,7 @@ use Rattle.rules.specs.Fields.{InRange}
 use Rattle.rules.proofs.Accepted.{accepted-ticks}
 use Rattle.code.specs.Op.{emit, instructions}
 use Rattle.code.specs.Compile.{listingOf}
-use Rattle.giotto.specs.Instant.{Configuration, Function, results, sensed, switchOf, modeAfter, unitAfter, afterSwitch, afterDrivers, instant}
+use Rattle.giotto.specs.Instant.{Configuration, Function, results, sensed, switchOf, modeAfter, unitAfter, afterSwitch, afterDrivers}
 use Rattle.giotto.specs.Execution.{pass}
 use Rattle.giotto.proofs.Execution.{pass-goes, releases-then, pass-stays}
 use Rattle.machine.specs.declared.State.{State}

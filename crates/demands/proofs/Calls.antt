@@ -12,7 +12,6 @@ use Rattle.theory.specs.Verdict.{Refusal, within, verdict, Rule, holding, First
 use Rattle.theory.proofs.Bools.{_or_, bars-lt, bars-as}
 use Rattle.theory.proofs.Verdict.{Barred, verdict-first, barred-within, barred-append}
 use Rattle.cells.specs.Limits.{maxPorts}
-use Rattle.cells.specs.Reading.{Values}
 use Rattle.program.specs.Tables.{Tables}
 use Rattle.program.specs.Program.{programOf}
 use Rattle.rules.specs.Shape.{Shaped}
@@ -37,16 +36,16 @@ long-bars T = bars-lt _ _
 
 -- a call that is lent the tables and more: its own tests bar its own rules, so its number is the first that applies
 lent-exact : {A : Type 0} (tables : A → Tables) (shape : A → Bool) (own : List (Refusal A)) (Shape : A → Type 0) (rules : List (Rule A)) (a : A)
-    → Values (tables a .drivers) → Bars (shape a) (Shape a) → (Shape a → Shaped (tables a)) → Barred own rules a
+    → Bars (shape a) (Shape a) → (Shape a → Shaped (tables a)) → Barred own rules a
     → (n : ℕ) → (verdict (lentRefusals tables shape own) a ≡ n) ↔ First (lentRules tables Shape rules) a n
-lent-exact tables shape own Shape rules a v s t w n =
+lent-exact tables shape own Shape rules a s t w n =
     verdict-first (lentRefusals tables shape own) (lentRules tables Shape rules) a (
       refl,
       s,
       λ h.
           barred-append (map (within tables) (tableRefusals ++ (longRefusal ∷ []))) own (map (holding tables) (tableRules ++ (longRule ∷ []))) rules a
           (barred-within tables (tableRefusals ++ (longRefusal ∷ [])) (tableRules ++ (longRule ∷ [])) a
-          (barred-append tableRefusals (longRefusal ∷ []) tableRules (longRule ∷ []) (tables a) (program-barred (tables a) v .2 (t h)) (refl, long-bars (tables a), λ l. tt)))
+          (barred-append tableRefusals (longRefusal ∷ []) tableRules (longRule ∷ []) (tables a) (program-barred (tables a) .2 (t h)) (refl, long-bars (tables a), λ l. tt)))
           w,
     )
     n
@@ -54,26 +53,26 @@ lent-exact tables shape own Shape rules a v s t w n =
 -- compiling
 pub compile-exact : CompileExact
 unfolding compileVerdict codeLong sliceShort
-compile-exact L v n =
+compile-exact L n =
     verdict-first compileRefusals compileRules L
     (barred-append (map (within (λ (L : Compiling). L .tables)) (shapeRefusal ∷ tableRefusals)) sliceRefusals
     (map (holding (λ (L : Compiling). L .tables)) programRules) sliceRules L
-    (barred-within (λ (L : Compiling). L .tables) (shapeRefusal ∷ tableRefusals) programRules L (program-barred (L .tables) v))
+    (barred-within (λ (L : Compiling). L .tables) (shapeRefusal ∷ tableRefusals) programRules L (program-barred (L .tables)))
     (refl, bars-lt _ _ or bars-lt _ _, λ h. tt))
     n
 
 -- the windows verdict
 pub windows-exact : WindowsExact
 unfolding windowsVerdict windowsShapeBad
-windows-exact L v n =
-    lent-exact (λ (L : Windowed). L .tables) windowsShapeBad windowRefusals WindowsShaped windowRules L v
+windows-exact L n =
+    lent-exact (λ (L : Windowed). L .tables) windowsShapeBad windowRefusals WindowsShaped windowRules L
     (shape-bars (L .tables) or slice-bars _ _ (L .windows)) (λ h. h .0) (refl, windows-bar L, λ w. tt) n
 
 -- a supplier's verdict up to 13
 pub part-exact : PartExact
 unfolding partVerdict partShapeBad
-part-exact L v n =
-    lent-exact (λ (L : Asked). L .tables) partShapeBad ownRefusals PartShaped ownRules L v
+part-exact L n =
+    lent-exact (λ (L : Asked). L .tables) partShapeBad ownRefusals PartShaped ownRules L
     (bars-as (shape-bars (L .tables) or slice-bars _ _ (L .windows) or slice-bars _ _ (L .part)) (λ ((s, w), p). (s, w, p)) (λ (s, w, p). ((s, w), p)))
     (λ h. h .0)
     (refl, windows-bar (windowedOf L), λ w. (refl, part-bars (L .tables) (L .part) (supplierOf L), λ p. tt))
@@ -82,8 +81,8 @@ part-exact L v n =
 -- an advance, before it runs
 pub advance-exact : AdvanceExact
 unfolding advanceVerdict
-advance-exact L v n =
-    lent-exact (λ (L : Advance). L .tables) advanceShapeBad runRefusals AdvanceShaped runRules L v (advance-shape-bars L) (λ h. h .tables)
+advance-exact L n =
+    lent-exact (λ (L : Advance). L .tables) advanceShapeBad runRefusals AdvanceShaped runRules L (advance-shape-bars L) (λ h. h .tables)
     (refl, joined-bars (L .tables) (L .schedule), λ w. (refl, state-bars L, λ p. tt)) n
 
 pub advance-keeps : RefusedKeeps

@@ -8,3 +8,5 @@ pub mod Sound
 pub mod Compiled
 pub mod Composed
 pub mod Supplied
+pub mod Ticks
+pub mod Giotto

@@ -23,7 +23,7 @@ use Rattle.program.proofs.Decoded.{mode-count}
 use Rattle.rules.specs.Shape.{badSlice}
 use Rattle.runs.specs.Windows.{windowCount, winSupplier, winMode, winFrom, winTo, inWindow, InWindow}
 use Rattle.runs.specs.Schedule.{scheduleWidth}
-use Rattle.runs.specs.Round.{Choice, Good, Fair, worstCase, Break, none, outside, late, worstBreak, nothing}
+use Rattle.runs.specs.Round.{Choice, Good, WithinWorst, worstCase, Break, none, outside, late, worstBreak, nothing}
 use Rattle.runs.proofs.Windows.{in-window-says}
 use Rattle.runs.proofs.Tick.{tick-runs}
 use Rattle.runs.proofs.Dominated.{Any, any-rows, unit-dominated}
@@ -47,7 +47,7 @@ module _ (L : Asked) (a : partVerdict L ≡ 0) where
 
   -- no run breaks exactly where every fair run of every mode is good
   all-good : AllGood (λ m. worstBreak (courseOf L m) nothing) (modeCount (L .tables)) 0
-      ↔ ((m : ℕ) → m < modeCount (L .tables) → (c : Choice) → Fair (courseOf L m) c → Good (courseOf L m) c nothing)
+      ↔ ((m : ℕ) → m < modeCount (L .tables) → (c : Choice) → WithinWorst (courseOf L m) c → Good (courseOf L m) c nothing)
   all-good = (
     λ g m l. no-break-exactly (courseOf L m) nothing (part-some-time L a m l) .0 (g m (omega arith) (omega arith)),
     λ h m _ l. no-break-exactly (courseOf L m) nothing (part-some-time L a m (omega arith)) .1 (h m (omega arith)),

@@ -22,15 +22,15 @@ use Rattle.demands.specs.Verdict.{VerdictExact, AcceptedExactly, Missing
 
 -- the verdict is the number of the first rule that is broken
 pub verdict-exact : VerdictExact
-verdict-exact T v n = program-first T v n
+verdict-exact T n = program-first T n
 
 -- a program is accepted exactly where every rule holds
 pub accepted-exactly : AcceptedExactly
-accepted-exactly T v = program-accepted T v
+accepted-exactly T = program-accepted T
 
 -- no interval guard but its own holds for a missing reading
 pub missing-reading : MissingReading
-missing-reading T v a d l k w = missing-guard T v a d l k w
+missing-reading T a d l k w = missing-guard T a d l k w
 
 -- what a compiling that is not refused knows: the program is accepted, and 11 does not apply
 own : List (Refusal Compiling)

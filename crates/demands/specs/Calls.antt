@@ -6,7 +6,6 @@ use Prim.Native.Nat.{ℕ}
 use mathlib.Core.Path.{_≡_}
 use mathlib.Core.Logic.{_↔_}
 use Rattle.theory.specs.Verdict.{First}
-use Rattle.cells.specs.Reading.{Values}
 use Rattle.program.specs.Tables.{Tables}
 use Rattle.rules.specs.Verdict.{programVerdict}
 use Rattle.code.specs.Compile.{Compiling, compileVerdict, compileRules}
@@ -16,19 +15,19 @@ use Rattle.machine.specs.Advance.{Advance, advanceVerdict, advanceRules, advanc
 
 -- compiling: 1 to 11
 abbrev pub CompileExact : Type 0
-CompileExact = (L : Compiling) → Values (L .tables .drivers) → (n : ℕ) → (compileVerdict L ≡ n) ↔ First compileRules L n
+CompileExact = (L : Compiling) → (n : ℕ) → (compileVerdict L ≡ n) ↔ First compileRules L n
 
 -- the windows verdict: 1 to 12
 abbrev pub WindowsExact : Type 0
-WindowsExact = (L : Windowed) → Values (L .tables .drivers) → (n : ℕ) → (windowsVerdict L ≡ n) ↔ First windowsRules L n
+WindowsExact = (L : Windowed) → (n : ℕ) → (windowsVerdict L ≡ n) ↔ First windowsRules L n
 
 -- a supplier's verdict: 1 to 13 (14 and 15 are in Supplier.antt)
 abbrev pub PartExact : Type 0
-PartExact = (L : Asked) → Values (L .tables .drivers) → (n : ℕ) → (partVerdict L ≡ n) ↔ First partRules L n
+PartExact = (L : Asked) → (n : ℕ) → (partVerdict L ≡ n) ↔ First partRules L n
 
 -- an advance, before it runs: 1 to 11, 13, 21 (16 to 20 are in machine/specs, as claims of what is executed)
 abbrev pub AdvanceExact : Type 0
-AdvanceExact = (L : Advance) → Values (L .tables .drivers) → (n : ℕ) → (advanceVerdict L ≡ n) ↔ First advanceRules L n
+AdvanceExact = (L : Advance) → (n : ℕ) → (advanceVerdict L ≡ n) ↔ First advanceRules L n
 
 -- a refused advance hands the state back as it was; a fresh state has the program verdict's number
 abbrev pub RefusedKeeps : Type 0

@@ -6,3 +6,5 @@ pub mod Supplier
 pub mod Compiled
 pub mod Composed
 pub mod Supplied
+pub mod Ticks
+pub mod Giotto

@@ -12,9 +12,9 @@ use lib.IntN.{ℤ}
 use lib.ListN.{length}
 use Rattle.theory.specs.Lists.{those, member}
 use Rattle.program.specs.Tables.{Tables, modeCount, taskSupplier, taskWorst}
-use Rattle.runs.specs.Tick.{leftOf, runs, Place, doing}
+use Rattle.runs.specs.Tick.{leftOf, Place, runsIn}
 use Rattle.runs.specs.Windows.{windowCount, winSupplier, winMode, winFrom, winTo}
-use Rattle.runs.specs.Round.{Course, Choice, begin, going, Good, Fair, worstCase, Break, outside, late, FirstBreak, nothing}
+use Rattle.runs.specs.Round.{Course, Choice, begin, going, Good, WithinWorst, worstCase, Break, outside, late, FirstBreak, nothing}
 use Rattle.suppliers.specs.Windows.{windowsVerdict}
 use Rattle.suppliers.specs.Supplier.{Asked, supplierOf, courseOf, windowedOf, partVerdict, supplierVerdict}
 
@@ -25,7 +25,7 @@ abbrev pub SupplierExact : Type 0
 SupplierExact =
     (L : Asked) → partVerdict L ≡ 0
     → (supplierVerdict L .number ≡ 0)
-    ↔ ((m : ℕ) → m < modeCount (L .tables) → (c : Choice) → Fair (courseOf L m) c → Good (courseOf L m) c nothing)
+    ↔ ((m : ℕ) → m < modeCount (L .tables) → (c : Choice) → WithinWorst (courseOf L m) c → Good (courseOf L m) c nothing)
 
 -- The place is that of the run with all worst-case times: the lowest mode whose run breaks, and the first break in it
 pub record BreaksAt (L : Asked) (m : ℕ) (b : Break) : Type 0 where
@@ -54,7 +54,7 @@ module _ (C : Course) (c d : Choice) (k : ℕ) (r q : List ℕ) where
   pub record DominatedUnit : Type 0 where
     pub further : (e : ℕ) → longer e .position ≤ shorter e .position
     pub owes : (e j : ℕ) → leftOf (shorter e .left) j ≤ leftOf (longer e .left) j
-    pub runs-only : (e : ℕ) → runs (doing (C .block k) e (shorter e)) ≡ true → runs (doing (C .block k) e (longer e)) ≡ true
+    pub runs-only : (e : ℕ) → runsIn (C .block k) e (shorter e) ≡ true → runsIn (C .block k) e (longer e) ≡ true
 
 -- from any remaining times at the unit's start, not only from none
 abbrev pub Domination : Type 0

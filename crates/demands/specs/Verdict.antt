@@ -6,7 +6,7 @@ use mathlib.Core.Path.{_≡_}
 use mathlib.Core.Logic.{_↔_}
 use lib.ListN.{length, drop}
 use Rattle.theory.specs.Verdict.{First, Keep}
-use Rattle.cells.specs.Reading.{noReading, Inside, Values}
+use Rattle.cells.specs.Reading.{noReading, Inside}
 use Rattle.cells.specs.Limits.{maxCode, wordsEach}
 use Rattle.program.specs.Tables.{Tables, driverCount, guardKind, guardLow, guardHigh, kindInterval}
 use Rattle.program.specs.Program.{programOf}
@@ -15,18 +15,17 @@ use Rattle.code.specs.Op.{instructions}
 use Rattle.code.specs.Listing.{lengthRule}
 use Rattle.code.specs.Compile.{Compiling, listingOf, compileVerdict, compileAnswer, compileSlice, wordsOf}
 
--- (The numbers of a lent slice are of 32 bits; only those of the drivers table matter, in number 8's valuations.)
 -- The verdict is n exactly where rule n is broken and no earlier one is; so it is 0 exactly where every rule holds
 abbrev pub VerdictExact : Type 0
-VerdictExact = (T : Tables) → Values (T .drivers) → (n : ℕ) → (programVerdict T ≡ n) ↔ First programRules T n
+VerdictExact = (T : Tables) → (n : ℕ) → (programVerdict T ≡ n) ↔ First programRules T n
 
 abbrev pub AcceptedExactly : Type 0
-AcceptedExactly = (T : Tables) → Values (T .drivers) → (programVerdict T ≡ 0) ↔ Keep programRules T
+AcceptedExactly = (T : Tables) → (programVerdict T ≡ 0) ↔ Keep programRules T
 
 -- no interval guard of an accepted program holds for a missing reading, but the one from no-reading to no-reading
 abbrev pub MissingReading : Type 0
 MissingReading =
-    (T : Tables) → Values (T .drivers) → programVerdict T ≡ 0 → (d : ℕ) → d < driverCount T → guardKind T d ≡ kindInterval
+    (T : Tables) → programVerdict T ≡ 0 → (d : ℕ) → d < driverCount T → guardKind T d ≡ kindInterval
     → Inside (guardLow T d) noReading (guardHigh T d) → (guardLow T d ≡ noReading) × (guardHigh T d ≡ noReading)
 
 -- compiling, not refused: the length is 01's rule, the words written are those of the listing, the rest of the slice is as before

@@ -1,5 +1,5 @@
 -- A configuration has one successor: any two agree in time, mode, unit, active tasks and every port.
--- Assumes rule 8, and that the driver table holds values of 32 bits.
+-- Assumes rules 2 and 8.
 use Prim.Native.Nat.{ℕ, suc, _+_, _/_, _%_, _<_}
 use mathlib.Core.Path.{_≡_, refl, ap, ap₂, sym, subst, subst₂, subst₃, _∙_, fun-ext}
 use mathlib.Core.Bool.{Bool, true, false}
@@ -10,18 +10,20 @@ use lib.ListN.{length}
 use Rattle.theory.specs.Verdict.{Keep}
 use Rattle.theory.proofs.Bools.{iff}
 use Rattle.cells.specs.Cell.{eqZ}
-use Rattle.cells.specs.Reading.{Values}
 use Rattle.cells.specs.Limits.{maxPorts}
 use Rattle.cells.proofs.Ints.{eqZ-says}
 use Rattle.program.specs.Tables.{Tables, modeCount, modePeriod, swTarget, swDriver}
 use Rattle.program.specs.Units.{units}
 use Rattle.program.specs.Program.{programOf}
 use Rattle.program.specs.Ports.{valueOf}
-use Rattle.program.proofs.Guards.{guards-meet}
+use Rattle.program.specs.Guard.{guardOf}
+use Rattle.program.proofs.Guards.{Sound, guards-meet}
+use Rattle.rules.specs.Fields.{Fields}
 use Rattle.rules.specs.Modes.{Switches}
 use Rattle.rules.specs.Verdict.{programRules}
+use Rattle.rules.proofs.Modes.{guard-sound}
 use Rattle.giotto.specs.Instant.{Configuration, instant}
-use Rattle.giotto.specs.Successor.{Valuation, Next, Drives, SwitchEnabled, Completed, Enabled, UpdateWrites, SensorWrites, InputWrites, Stays, Changes, Successor}
+use Rattle.giotto.specs.Successor.{Valuation, Next, Drives, SwitchEnabled, Completed, Enabled, UpdateWrites, SensorWrites, InputWrites, Stays, Changes, Successor, Same}
 use Rattle.giotto.proofs.Steps.{same-row}
 use Rattle.giotto.proofs.Succeeds.{instant-succeeds}
 
@@ -36,21 +38,17 @@ next-one {Writes} {w} {w′} n n′ = fun-ext (λ p. go p (eqZ (w p) (w′ p)) r
         let none : (x : ℤ) → Writes p x → ⊥ = λ x h. apart (n .written p x h ∙ sym (n′ .written p x h)) in
         absurd (apart (n .kept p none ∙ sym (n′ .kept p none)))
 
--- what two configurations have in common
-pub record Same (C C′ : Configuration) : Type 0 where
-  pub time : C .time ≡ C′ .time
-  pub mode : C .mode ≡ C′ .mode
-  pub unit : C .unit ≡ C′ .unit
-  pub ports : (p : ℕ) → valueOf (C .ports) p ≡ valueOf (C′ .ports) p
-  pub active : (t : ℕ) → C .active t ≡ C′ .active t
+module _ (T : Tables) (f : Fields T) (s : Switches T) (C : Configuration) where
+  -- the guard of an enabled switch is one of values
+  sound : (v : Valuation) (i : ℕ) → SwitchEnabled T (C .mode) (C .unit) v i → Sound (guardOf T (swDriver T i))
+  sound v i a = guard-sound T f (swDriver T i) (f .switches i (a .in-table) .driver)
 
-module _ (T : Tables) (s : Switches T) (n : Values (T .drivers)) (C : Configuration) where
   -- two enabled switches are one row
   switch-row : (v : Valuation) (i j : ℕ) → SwitchEnabled T (C .mode) (C .unit) v i → SwitchEnabled T (C .mode) (C .unit) v j → i ≡ j
   switch-row v i j a b =
       same-row i j
-      (λ l. s .apart j i l (b .in-table) (a .of-mode ∙ sym (b .of-mode)) (guards-meet T n (swDriver T i) (swDriver T j) v (a .guard) (b .guard)))
-      (λ l. s .apart i j l (a .in-table) (b .of-mode ∙ sym (a .of-mode)) (guards-meet T n (swDriver T j) (swDriver T i) v (b .guard) (a .guard)))
+      (λ l. s .apart j i l (b .in-table) (a .of-mode ∙ sym (b .of-mode)) (guards-meet T (swDriver T i) (swDriver T j) v (sound v i a) (sound v j b) (a .guard) (b .guard)))
+      (λ l. s .apart i j l (a .in-table) (b .of-mode ∙ sym (a .of-mode)) (guards-meet T (swDriver T j) (swDriver T i) v (sound v j b) (sound v i a) (b .guard) (a .guard)))
 
   -- steps 4 to 6 lead to one mode, one unit and the same values
   switch-one : (v w w′ : Valuation) (m m′ u u′ : ℕ) → Stays T C v w m u ⊎ Changes T C v w m u → Stays T C v w′ m′ u′ ⊎ Changes T C v w′ m′ u′
@@ -105,16 +103,16 @@ module _ (T : Tables) (s : Switches T) (n : Values (T .drivers)) (C : Configurat
         }
 
 -- any two successors of one configuration agree
-pub successor-one : (T : Tables) → Keep programRules T → Values (T .drivers)
+pub successor-one : (T : Tables) → Keep programRules T
     → (result : ℕ → ℕ → ℤ) (readings : Valuation) (C C′ C″ : Configuration)
     → Successor T result readings C C′ → Successor T result readings C C″ → Same C′ C″
-successor-one T K n result readings C C′ C″ S S′ = same T (K .1 .1 .1 .1 .1 .1 .1 .0) n C result readings C′ C″ S S′
+successor-one T K result readings C C′ C″ S S′ = same T (K .1 .0) (K .1 .1 .1 .1 .1 .1 .1 .0) C result readings C′ C″ S S′
 
 -- every successor agrees with the executable instant
-pub successor-instant : (T : Tables) → Keep programRules T → Values (T .drivers)
+pub successor-instant : (T : Tables) → Keep programRules T
     → (result : ℕ → ℕ → ℤ) (readings : List ℤ) (C C′ : Configuration)
     → length (C .ports) ≡ maxPorts → C .mode < modeCount T → C .unit < units T (C .mode)
     → Successor T result (valueOf readings) C C′ → Same C′ (instant (programOf T) result readings C)
-successor-instant T K n result readings C C′ l m u S =
-    successor-one T K n result (valueOf readings) C C′ (instant (programOf T) result readings C) S
+successor-instant T K result readings C C′ l m u S =
+    successor-one T K result (valueOf readings) C C′ (instant (programOf T) result readings C) S
     (instant-succeeds T K result readings C l m u)

@@ -1,6 +1,7 @@
 -- 001's successor configuration (section 3.2), step by step and port by port, as a claim over the tables; bounded as in
--- document 01 (no private ports, a switch enters unit 0). `instant` computes it, and nothing else
--- succeeds: `instant-succeeds` and `successor-one` in proofs/. Assumes nothing.
+-- document 01 (no private ports, a switch enters unit 0). 001's step 6 moves the unit before step 7 asks which tasks are due; 01's steps (5)
+-- to (7) drive and release the tasks of the unit entered and move it last, and decide: so here. `instant` computes it, and nothing
+-- else succeeds: `instant-succeeds` and `successor-one` in proofs/. Assumes nothing.
 use Prim.Native.Nat.{ℕ, suc, _+_, _/_, _%_, _<_}
 use mathlib.Core.Path.{_≡_}
 use mathlib.Core.Bool.{true}
@@ -98,6 +99,14 @@ pub record Successor (T : Tables) (result : ℕ → ℕ → ℤ) (readings : Val
   pub step-7 : Next (InputWrites T (C′ .mode) unit after-switch) after-switch (valueOf (C′ .ports))
   -- 8. active tasks: (σactive \ σcompleted) ∪ σenabled
   pub step-8 : (t : ℕ) → (C′ .active t ≡ true) ↔ (((C .active t ≡ true) × (Completed T C t → ⊥)) ⊎ Enabled T (C′ .mode) unit t)
-  -- 9. time stamp, and the unit after the one entered
+  -- 9. time stamp, and the unit after the one entered: moved here and not in step 6
   pub time-stamp : C′ .time ≡ C .time + modePeriod T (C′ .mode) / units T (C′ .mode)
   pub next-unit : C′ .unit ≡ suc unit % units T (C′ .mode)
+
+-- what two configurations have in common
+pub record Same (C C′ : Configuration) : Type 0 where
+  pub time : C .time ≡ C′ .time
+  pub mode : C .mode ≡ C′ .mode
+  pub unit : C .unit ≡ C′ .unit
+  pub ports : (p : ℕ) → valueOf (C .ports) p ≡ valueOf (C′ .ports) p
+  pub active : (t : ℕ) → C .active t ≡ C′ .active t

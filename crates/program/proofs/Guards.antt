@@ -12,7 +12,7 @@ use Rattle.theory.specs.Claim.{Says}
 use Rattle.theory.specs.Order.{_≤Z_}
 use Rattle.theory.proofs.Bools.{clash, is-true, says-not, says-or, says-as, says-eq}
 use Rattle.theory.proofs.Order.{le-refl, le-trans, overlap}
-use Rattle.cells.specs.Reading.{inside, Inside, Value, Values, noReading}
+use Rattle.cells.specs.Reading.{inside, Inside, Value, noReading}
 use Rattle.cells.proofs.Readings.{inside-says}
 use Rattle.program.specs.Tables.{Tables, guardKind, guardPort, guardLow, guardHigh, kindAlways}
 use Rattle.program.specs.Guard.{Guard, always, interval, guardOf, holds, meet, Meet}
@@ -55,6 +55,10 @@ hold-meet (interval p l h) (interval q k j) v b c e f =
 abbrev pub Sound : Guard → Type 0
 Sound always = Unit {0}
 Sound (interval p low high) = Value low × Value high × (low ≤Z high)
+
+bounded : (g : Guard) → Sound g → Bounded g
+bounded always s = tt
+bounded (interval p low high) s = (s .0, s .1)
 
 -- a test that passes says what holds
 surely : {b : Bool} {P : Type 0} → b ≡ true → P → Says b P
@@ -100,18 +104,10 @@ module _ (T : Tables) where
   pub always-holds : (d : ℕ) (v : ℕ → ℤ) → guardKind T d ≡ kindAlways → holds (guardOf T d) v ≡ true
   always-holds d v e = rw (eq-eqb (guardKind T d) kindAlways e, holds)
 
-  -- the tables' guards are of 32 bits where the driver table is
-  bounded : Values (T .drivers) → (d : ℕ) → Bounded (guardOf T d)
-  bounded n d = go (eqb (guardKind T d) kindAlways)
-    where
-      go : (b : Bool) → Bounded (elim b [ true ↦ always | false ↦ interval (guardPort T d) (guardLow T d) (guardHigh T d) ])
-      go true = tt
-      go false = (n _, n _)
-
-  -- two drivers' guards that hold for one valuation can hold together
-  pub guards-meet : Values (T .drivers) → (d e : ℕ) (v : ℕ → ℤ)
+  -- two drivers' guards, of values, that hold for one valuation can hold together
+  pub guards-meet : (d e : ℕ) (v : ℕ → ℤ) → Sound (guardOf T d) → Sound (guardOf T e)
       → holds (guardOf T d) v ≡ true → holds (guardOf T e) v ≡ true → Meet (guardOf T d) (guardOf T e)
-  guards-meet n d e v = hold-meet (guardOf T d) (guardOf T e) v (bounded n d) (bounded n e)
+  guards-meet d e v s t = hold-meet (guardOf T d) (guardOf T e) v (bounded (guardOf T d) s) (bounded (guardOf T e) t)
 
 -- A driver's guard by its kind
 guard-always : (T : Tables) (d : ℕ) → eqb (guardKind T d) kindAlways ≡ true → guardOf T d ≡ always

@@ -8,7 +8,7 @@ use native.Mathlib.Omega.{arith}
 use lib.Dec.{eqb}
 use lib.IntN.{ℤ}
 use lib.ListN.{length}
-use Rattle.theory.specs.Lists.{those, keep, member}
+use Rattle.theory.specs.Lists.{keep, member}
 use Rattle.theory.proofs.Lists.{sum-same, keep-those, those-same}
 use Rattle.program.specs.Tables.{Tables, taskCount, taskSupplier, modeCount, invocationWidth, invocationCount, invTask}
 use Rattle.program.specs.Units.{units, rowDue}

@@ -7,7 +7,7 @@ use Rattle.theory.proofs.Bools.{says-or, says-as, says-lt, says-le, says-eq, ba
 use Rattle.theory.proofs.Search.{bars-any}
 use Rattle.theory.proofs.Order.{leZ-says}
 use Rattle.cells.proofs.Ints.{eqZ-says}
-use Rattle.cells.proofs.Readings.{missing-says}
+use Rattle.cells.proofs.Readings.{missing-says, value-says}
 use Rattle.program.specs.Tables.{Tables, portKind, output, guardLow, guardHigh, modeCount, startMode}
 use Rattle.rules.specs.Fields.{inRange, InRange, portBad, taskBad, TaskFits, taskPortBad, TaskPortFits, alwaysFits, AlwaysFits, intervalFits, IntervalFits, driverBad, copyBad, CopyFits, modeBad, modePortBad, ModePortFits, invocationBad, InvocationFits, updateBad, UpdateFits, switchBad, SwitchFits, startBad, fieldsBad, Fields}
 
@@ -37,9 +37,11 @@ module _ (T : Tables) where
   interval-says : (d : ℕ) → Says (intervalFits T d) (IntervalFits T d)
   unfolding intervalFits
   interval-says d =
-      says-as (says-eq _ _ and says-lt _ _ and leZ-says (guardLow T d) (guardHigh T d) and says-implies (missing-says _) (missing-says _))
-      (λ (((k, p), o), m). record { kind = k; port = p; ordered = o; missing = m })
-      (λ f. (((f .kind, f .port), f .ordered), f .missing))
+      says-as
+      (value-says (guardLow T d) and value-says (guardHigh T d) and says-eq _ _ and says-lt _ _ and leZ-says (guardLow T d) (guardHigh T d)
+      and says-implies (missing-says _) (missing-says _))
+      (λ (((((l, h), k), p), o), m). record { low = l; high = h; kind = k; port = p; ordered = o; missing = m })
+      (λ f. (((((f .low, f .high), f .kind), f .port), f .ordered), f .missing))
 
   driver-bars : (d : ℕ) → Bars (driverBad T d) (AlwaysFits T d ⊎ IntervalFits T d)
   unfolding driverBad

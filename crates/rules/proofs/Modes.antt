@@ -10,7 +10,6 @@ use borrow.Author.Tests.{eqb-false}
 use Rattle.theory.specs.Claim.{Bars}
 use Rattle.theory.proofs.Bools.{says-or, says-eq, bars-not, bars-says, bars-and, bars-as, _or_}
 use Rattle.theory.proofs.Search.{bars-any, bars-below}
-use Rattle.cells.specs.Reading.{Values}
 use Rattle.program.specs.Tables.{Tables, sensor, actuator, driverCount, guardKind, guardPort, guardLow, guardHigh, kindAlways, invMode, invTask, invDriver, updMode, updDriver, switchCount, swMode, swTarget, swDriver}
 use Rattle.program.specs.Guard.{always, interval, guardOf}
 use Rattle.program.specs.Sets.{Sensor, ModePort}
@@ -74,14 +73,14 @@ module _ (T : Tables) where
       })
       (λ s i h. ((λ p. s .sources i p h, λ p. s .destinations i p h), λ j l e p. s .apart i j p l h e))
 
-module _ (T : Tables) (f : Fields T) (v : Values (T .drivers)) where
+module _ (T : Tables) (f : Fields T) where
   -- the guard of a declared driver is no empty interval
   pub guard-sound : (d : ℕ) → d < driverCount T → Sound (guardOf T d)
   guard-sound d l = go (eqb (guardKind T d) kindAlways) refl
     where
       go : (b : Bool) → eqb (guardKind T d) kindAlways ≡ b → Sound (elim b [ true ↦ always | false ↦ interval (guardPort T d) (guardLow T d) (guardHigh T d) ])
       go true e = tt
-      go false e = ⊎-elim (λ a. absurd (eqb-false _ _ e (a .kind))) (λ i. (v _, v _, i .ordered)) (f .drivers d l)
+      go false e = ⊎-elim (λ a. absurd (eqb-false _ _ e (a .kind))) (λ i. (i .low, i .high, i .ordered)) (f .drivers d l)
 
   -- number 8 bars 001's condition on mode switches
   pub switches-bar : Bars (switchesBad T) (Switches T)

@@ -1,5 +1,5 @@
 -- The verdict on a program is the number of the first rule that is broken, and 0 exactly where every rule holds.
--- Assumes that the numbers of the drivers' table are of 32 bits: `Meet`, in number 8, asks for values of 32 bits.
+-- Assumes nothing: that the bounds of a guard are of 32 bits, which `Meet` in number 8 asks for, is part of number 2.
 use Prim.Native.Nat.{ℕ, _<_}
 use mathlib.Core.Path.{_≡_, refl}
 use mathlib.Core.Bool.{Bool}
@@ -9,7 +9,7 @@ use native.Mathlib.Omega.{arith}
 use Rattle.theory.specs.Claim.{Bars}
 use Rattle.theory.specs.Verdict.{First, Keep}
 use Rattle.theory.proofs.Verdict.{Barred, verdict-first, first-none}
-use Rattle.cells.specs.Reading.{Inside, Values, noReading}
+use Rattle.cells.specs.Reading.{Inside, noReading}
 use Rattle.cells.proofs.Readings.{missing-only-its-own}
 use Rattle.program.specs.Tables.{Tables, driverCount, guardKind, guardLow, guardHigh, kindInterval}
 use Rattle.rules.specs.Fields.{Fields}
@@ -24,7 +24,7 @@ use Rattle.rules.proofs.Timing.{units-bar, whole-bars}
 next : {n : ℕ} {b : Bool} {G R : Type 0} → Bars b G → (G → R) → (n ≡ n) × Bars b G × (G → R)
 next s rest = (refl, s, rest)
 
-module _ (T : Tables) (v : Values (T .drivers)) where
+module _ (T : Tables) where
   -- each test bars the rule of its number where the earlier rules hold
   pub program-barred : Barred (shapeRefusal ∷ tableRefusals) programRules T
   program-barred =
@@ -35,7 +35,7 @@ module _ (T : Tables) (v : Values (T .drivers)) where
       next (mode-ports-bar T) λ mode-ports.
       next (invocations-bar T) λ invocations.
       next (updates-bar T) λ updates.
-      next (switches-bar T f v) λ switches.
+      next (switches-bar T f) λ switches.
       next (units-bar T) λ units.
       next (whole-bars T) λ whole. tt
 
@@ -55,5 +55,5 @@ module _ (T : Tables) (v : Values (T .drivers)) where
       → Inside (guardLow T d) noReading (guardHigh T d) → (guardLow T d ≡ noReading) × (guardHigh T d ≡ noReading)
   missing-guard a d l k w =
       let f : Fields T = program-accepted .0 a .1 .0 in
-      let e = missing-only-its-own (guardLow T d) (guardHigh T d) (v _ .0) w in
-      (e, ⊎-elim (λ o. absurd (omega (arith, o .kind))) (λ i. i .missing e) (f .drivers d l))
+      ⊎-elim (λ o. absurd (omega (arith, o .kind)))
+      (λ i. let e = missing-only-its-own (guardLow T d) (guardHigh T d) (i .low .0) w in (e, i .missing e)) (f .drivers d l)

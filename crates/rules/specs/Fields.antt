@@ -10,7 +10,7 @@ use lib.Signed.{leZ}
 use Rattle.theory.specs.Search.{any}
 use Rattle.theory.specs.Order.{_≤Z_}
 use Rattle.cells.specs.Cell.{eqZ}
-use Rattle.cells.specs.Reading.{isMissing, noReading}
+use Rattle.cells.specs.Reading.{isMissing, noReading, Value, isValue}
 use Rattle.cells.specs.Limits.{suppliers, maxWorst, maxPeriod, maxFrequency}
 use Rattle.program.specs.Tables.{Tables, portCount, portKind, output, taskCount, taskSupplier, taskWorst, taskPortCount, tpTask, tpPort, driverCount, guardKind, guardPort, guardLow, guardHigh, kindAlways, kindInterval, copyCount, copyDriver, copySource, copyDestination, modeCount, modePeriod, modePortCount, mpMode, mpPort, invocationCount, invMode, invFrequency, invTask, invDriver, updateCount, updMode, updFrequency, updDriver, switchCount, swMode, swFrequency, swTarget, swDriver, startMode}
 
@@ -41,13 +41,16 @@ pub record TaskPortFits (T : Tables) (k : ℕ) : Type 0 where
   pub task : tpTask T k < taskCount T
   pub port : tpPort T k < portCount T
 
--- drivers: kind 0 has 0 in its other three fields; kind 1 has a port, low ≤ high, and low no reading only if high is too
+-- drivers: kind 0 has 0 in its other three fields; kind 1 has a port, values low ≤ high, and low no reading only if high is too. (A number of
+-- a lent slice is always a value; what is none is out of range, so that the rules speak of every list of numbers.)
 unfoldable pub alwaysFits : Tables → ℕ → Bool
 alwaysFits T d = eqb (guardKind T d) kindAlways && eqb (guardPort T d) 0 && eqZ (guardLow T d) (pos 0) && eqZ (guardHigh T d) (pos 0)
 
 unfoldable pub intervalFits : Tables → ℕ → Bool
 intervalFits T d =
-    eqb (guardKind T d) kindInterval
+    isValue (guardLow T d)
+    && isValue (guardHigh T d)
+    && eqb (guardKind T d) kindInterval
     && ltb (guardPort T d) (portCount T)
     && leZ (guardLow T d) (guardHigh T d)
     && (not (isMissing (guardLow T d)) || isMissing (guardHigh T d))
@@ -62,6 +65,8 @@ pub record AlwaysFits (T : Tables) (d : ℕ) : Type 0 where
   pub high : guardHigh T d ≡ pos 0
 
 pub record IntervalFits (T : Tables) (d : ℕ) : Type 0 where
+  pub low : Value (guardLow T d)
+  pub high : Value (guardHigh T d)
   pub kind : guardKind T d ≡ kindInterval
   pub port : guardPort T d < portCount T
   pub ordered : guardLow T d ≤Z guardHigh T d

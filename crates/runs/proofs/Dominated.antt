@@ -9,7 +9,7 @@ use native.Mathlib.Omega.{arith}
 use lib.ListN.{length, length-set}
 use Rattle.theory.specs.Lists.{member}
 use Rattle.theory.proofs.Lists.{every-all}
-use Rattle.runs.specs.Tick.{dispatch, Row, Act, rest, run, runs, after, Place, doing}
+use Rattle.runs.specs.Tick.{dispatch, Row, Act, rest, run, after, Place, doing, runsIn}
 use Rattle.runs.specs.Round.{Course, Choice, begin, going, before, alone, Good}
 use Rattle.runs.specs.Dominated.{OwnRows, AtMost, Dominated}
 use Rattle.runs.proofs.Tick.{tick-runs, tick-dominated}
@@ -81,7 +81,7 @@ module _ (Own : ℕ → Type 0) where
     alone-dominated k e = unit-from k (before-dominated k) e
 
     -- whenever the shorter run runs, the longer runs too
-    pub alone-runs : (k e : ℕ) → runs (doing (C .block k) e (alone C c r k e)) ≡ true → runs (doing (C .block k) e (alone C d q k e)) ≡ true
+    pub alone-runs : (k e : ℕ) → runsIn (C .block k) e (alone C c r k e) ≡ true → runsIn (C .block k) e (alone C d q k e) ≡ true
     alone-runs k e = tick-runs Own (C .block k) e (alone C c r k e) (alone C d q k e) (own k) (alone-dominated k e)
 
 -- where the longer run keeps to its windows and terminations, the shorter does

@@ -13,7 +13,7 @@ use borrow.Author.Tests.{leb-true, leb-false}
 use Rattle.theory.specs.Lists.{member}
 use Rattle.theory.proofs.Bools.{clash}
 use Rattle.theory.proofs.Members.{some-one, none-of}
-use Rattle.runs.specs.Tick.{leftOf, runs, Place, doing}
+use Rattle.runs.specs.Tick.{leftOf, Place, runsIn}
 use Rattle.runs.specs.Round.{Course, Choice, begin, going, before, alone, Good, Break, none, outside, late, Ticked, ended, left-at, watched, unfinished, judge, OutsideAt, LateAt, FirstBreak}
 use Rattle.runs.proofs.Ticks.{In, Comes, ticks-come}
 
@@ -24,7 +24,7 @@ later T k i h = omega (arith, suc-mul k T, mul-le-mul-right T h)
 module _ (C : Course) (c : Choice) (left : List ℕ) where
   -- no break in the units before k
   record Clean (k : ℕ) : Type 0 where
-    inside : (i e : ℕ) → i < k → e < C .ticks → runs (doing (C .block i) e (alone C c left i e)) ≡ true → C .window (i * C .ticks + e) ≡ true
+    inside : (i e : ℕ) → i < k → e < C .ticks → runsIn (C .block i) e (alone C c left i e) ≡ true → C .window (i * C .ticks + e) ≡ true
     ends : (i j : ℕ) → i < k → member j (C .ending i) ≡ true → leftOf (alone C c left i (C .ticks) .left) j ≡ 0
 
   -- ticks of unit k before tick x are inside
@@ -43,10 +43,10 @@ module _ (C : Course) (c : Choice) (left : List ℕ) where
       go (no i) (yes d) = omega (arith, later (C .ticks) k (w .unit) d, w .is-tick)
       go (no i) (no d) = here (w .unit) (w .elapsed) (omega arith) (w .is-tick) (w .runs-then) apart
         where
-          here : (m y : ℕ) → m ≡ k → s ≡ m * C .ticks + y → runs (doing (C .block m) y (alone C c left m y)) ≡ true
+          here : (m y : ℕ) → m ≡ k → s ≡ m * C .ticks + y → runsIn (C .block m) y (alone C c left m y) ≡ true
               → (C .window (m * C .ticks + y) ≡ true → ⊥) → ⊥
           here m y e q r n =
-              n (subst (λ m. s ≡ m * C .ticks + y → runs (doing (C .block m) y (alone C c left m y)) ≡ true → C .window (m * C .ticks + y) ≡ true) (sym e)
+              n (subst (λ m. s ≡ m * C .ticks + y → runsIn (C .block m) y (alone C c left m y) ≡ true → C .window (m * C .ticks + y) ≡ true) (sym e)
               (λ q r. u y (omega arith) (omega arith) r) q r)
 
   clean-late : (k : ℕ) → Clean k → (s : ℕ) → s < k * C .ticks + C .ticks → LateAt C c left s → ⊥
@@ -62,9 +62,9 @@ module _ (C : Course) (c : Choice) (left : List ℕ) where
   clean-next k h u n = record { inside = λ i e l. in-unit i e l (ℕ-discrete k i); ends = λ i j l. ended-unit i j l (ℕ-discrete k i) }
     where
       in-unit : (i e : ℕ) → i < suc k → Dec (k ≡ i) → e < C .ticks
-          → runs (doing (C .block i) e (alone C c left i e)) ≡ true → C .window (i * C .ticks + e) ≡ true
+          → runsIn (C .block i) e (alone C c left i e) ≡ true → C .window (i * C .ticks + e) ≡ true
       in-unit i e l (yes q) =
-          subst (λ i. e < C .ticks → runs (doing (C .block i) e (alone C c left i e)) ≡ true → C .window (i * C .ticks + e) ≡ true) q (u e (omega arith))
+          subst (λ i. e < C .ticks → runsIn (C .block i) e (alone C c left i e) ≡ true → C .window (i * C .ticks + e) ≡ true) q (u e (omega arith))
       in-unit i e l (no q) = h .inside i e (omega arith)
 
       ended-unit : (i j : ℕ) → i < suc k → Dec (k ≡ i) → member j (C .ending i) ≡ true → leftOf (alone C c left i (C .ticks) .left) j ≡ 0

@@ -13,3 +13,4 @@ pub mod Rows
 pub mod Turns
 pub mod Ends
 pub mod Watching
+pub mod Over

@@ -12,7 +12,7 @@ use lib.ListN.{drop, drop-of-length-le}
 use lib.Seq.{drop-cons}
 use borrow.Author.Tests.{ltb-true, ltb-false}
 use Rattle.theory.proofs.Lists.{each-length, each-at}
-use Rattle.runs.specs.Tick.{dispatch, idle, Row, leftOf, done, skipped, passed, rest, run, does, act, moved, turnOf}
+use Rattle.runs.specs.Tick.{dispatch, idle, Row, leftOf, done, reached, skipped, passed, rest, run, does, act, moved, turnOf}
 use Rattle.runs.specs.Schedule.{scheduleCount, rowKind, rowTask, rowTimeout, kindDispatch, rowOf, rowsOf}
 
 -- row i and the rows behind it
@@ -52,8 +52,8 @@ module _ (B : List ℤ) (elapsed : ℕ) (left : List ℕ) where
 
 -- row i has nothing to do, as the code asks it
 pub row-skipped : (B : List ℤ) (elapsed : ℕ) (left : List ℕ) (i : ℕ)
-    → (leb (rowTimeout B i) elapsed || (eqb (rowKind B i) kindDispatch && leb (leftOf left (rowTask B i)) 0)) ≡ skipped elapsed left (rowOf B i)
-row-skipped B elapsed left i = ap (λ b. leb (rowTimeout B i) elapsed || b) (go (eqb (rowKind B i) kindDispatch))
+    → (reached (rowTimeout B i) elapsed || (eqb (rowKind B i) kindDispatch && leb (leftOf left (rowTask B i)) 0)) ≡ skipped elapsed left (rowOf B i)
+row-skipped B elapsed left i = ap (λ b. reached (rowTimeout B i) elapsed || b) (go (eqb (rowKind B i) kindDispatch))
   where
     go : (b : Bool) → (b && leb (leftOf left (rowTask B i)) 0) ≡ done (elim b [ true ↦ dispatch | false ↦ idle ]) (leftOf left (rowTask B i))
     go true = refl

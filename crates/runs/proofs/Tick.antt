@@ -7,12 +7,11 @@ use mathlib.Core.Bool.{Bool, true, false, _||_}
 use mathlib.Core.List.{List, [], _∷_}
 use native.Mathlib.Omega.{arith}
 use native.Mathlib.Decide.{ℕ-discrete}
-use lib.Dec.{leb}
 use lib.ListN.{length, set, drop}
 use lib.Seq.{getD-set-other, drop-drop}
 use borrow.Author.Tests.{leb-true, leb-false, le-leb}
 use Rattle.theory.proofs.Bools.{clash, neither}
-use Rattle.runs.specs.Tick.{Kind, dispatch, idle, Row, leftOf, done, skipped, passed, Act, rest, run, does, act, runs, after, Place, moved, doing, tick}
+use Rattle.runs.specs.Tick.{Kind, dispatch, idle, Row, leftOf, done, reached, skipped, passed, Act, rest, run, does, act, runs, after, Place, moved, doing, runsIn, tick}
 use Rattle.runs.specs.Dominated.{Settled, OwnRows, AtMost, Dominated}
 
 -- either test, and so either of two that follow
@@ -58,7 +57,7 @@ pub moved-settled : (block : List Row) (e : ℕ) (s : Place) → Settled block e
 moved-settled block e s h = settled (s .position) block e (s .left) h
 
 -- a job that runs has a tick less left
-one-less : (r : List ℕ) (j : ℕ) → leftOf (set r j (leftOf r j - 1)) j ≡ leftOf r j - 1
+pub one-less : (r : List ℕ) (j : ℕ) → leftOf (set r j (leftOf r j - 1)) j ≡ leftOf r j - 1
 one-less [] j = refl
 one-less (n ∷ r) zero = refl
 one-less (n ∷ r) (suc j) = one-less r j
@@ -92,7 +91,7 @@ busy (x ∷ xs) e r t h = go (skipped e r x) refl (busy xs e r t) h
     go true p i h = i h
     go false p i h =
         let w = does-run (x .kind) (x .job) t h in
-        let n = neither (leb (x .timeout) e) (done (x .kind) (leftOf r (x .job))) p .1 in
+        let n = neither (reached (x .timeout) e) (done (x .kind) (leftOf r (x .job))) p .1 in
         let m : done dispatch (leftOf r t) ≡ false = sym (λ i. done (w .0 i) (leftOf r (w .1 i))) ∙ n in
         omega (arith, leb-false (leftOf r t) 0 m)
 
@@ -103,13 +102,17 @@ tick-busy block e s t h =
     (ap act (drop-drop (passed (drop (s .position) block) e (s .left)) (s .position) block) ∙ h)
 
 -- the jobs that are asked about
+-- a timeout that is reached is reached later too
+reached-later : (timeout e f : ℕ) → e ≤ f → reached timeout e ≡ true → reached timeout f ≡ true
+reached-later timeout e f l h = le-leb timeout f (omega (arith, leb-true timeout e h))
+
 module _ (Own : ℕ → Type 0) where
   -- a row that is skipped is skipped later too, and by a run that owes less
   skipped-more : (e f : ℕ) (q r : List ℕ) → e ≤ f → AtMost Own r q → (x : Row) → (x .kind ≡ dispatch → Own (x .job))
       → skipped e q x ≡ true → skipped f r x ≡ true
   skipped-more e f q r l b x o =
-      or-more (leb (x .timeout) e) (done (x .kind) (leftOf q (x .job))) (leb (x .timeout) f) (done (x .kind) (leftOf r (x .job)))
-      (λ t. le-leb (x .timeout) f (omega (arith, leb-true (x .timeout) e t)))
+      or-more (reached (x .timeout) e) (done (x .kind) (leftOf q (x .job))) (reached (x .timeout) f) (done (x .kind) (leftOf r (x .job)))
+      (reached-later (x .timeout) e f l)
       (done-more (x .kind) (leftOf q (x .job)) (leftOf r (x .job)) (λ k. b (x .job) (o k)))
 
   -- at least as many rows are passed later, and by a run that owes less
@@ -171,7 +174,7 @@ module _ (Own : ℕ → Type 0) where
       go true p true n i = i
       go true p false n i =
           fit-ahead (x .kind) (x .job) r q _ b
-          (or-right (leb (x .timeout) e) (done (x .kind) (leftOf r (x .job))) (done (x .kind) (leftOf q (x .job))) p n)
+          (or-right (reached (x .timeout) e) (done (x .kind) (leftOf r (x .job))) (done (x .kind) (leftOf q (x .job))) p n)
       go false p true n i = clash (skipped-more e e q r (omega arith) b x (o .0) n) p
       go false p false n i = fit-same (x .kind) (x .job) r q b
 
@@ -183,7 +186,7 @@ module _ (Own : ℕ → Type 0) where
 
   -- whenever the dominated place runs, the other runs too
   pub tick-runs : (block : List Row) (e : ℕ) (s d : Place) → OwnRows Own block → Dominated Own block e s d
-      → runs (doing block e s) ≡ true → runs (doing block e d) ≡ true
+      → runsIn block e s ≡ true → runsIn block e d ≡ true
   tick-runs block e s d o h = tick-fit block e s d o h .runs-too
 
   -- the rows passed at a tick are passed at the next, by what owes at most as much

@@ -7,20 +7,20 @@ use mathlib.Core.List.{List}
 use native.Mathlib.Omega.{arith}
 use native.Mathlib.Decide.{ℕ-discrete}
 use Rattle.theory.proofs.Bools.{clash}
-use Rattle.runs.specs.Tick.{Row, runs, Place, doing}
+use Rattle.runs.specs.Tick.{Row, Place, runsIn}
 use Rattle.runs.specs.Round.{going, Ticked, ended, left-at, watched}
 
 -- a unit that begins at s, at tick o of the round
 module _ (window : ℕ → Bool) (block : List Row) (s : Place) (o : ℕ) where
   -- tick x of the unit is inside
   abbrev pub In : ℕ → Type 0
-  In x = runs (doing block x (going block s x)) ≡ true → window (o + x) ≡ true
+  In x = runsIn block x (going block s x) ≡ true → window (o + x) ≡ true
 
   -- what n ticks from tick e come to
   abbrev pub Comes : ℕ → ℕ → Ticked → Type 0
   Comes n e (ended r) = (r ≡ going block s (e + n) .left) × ((x : ℕ) → e ≤ x → x < e + n → In x)
   Comes n e (left-at t) =
-      (x : ℕ) × (x < e + n) × (t ≡ o + x) × (runs (doing block x (going block s x)) ≡ true) × (window t ≡ false)
+      (x : ℕ) × (x < e + n) × (t ≡ o + x) × (runsIn block x (going block s x) ≡ true) × (window t ≡ false)
       × ((y : ℕ) → e ≤ y → y < x → In y)
 
   -- one tick inside, and what the others come to
@@ -41,9 +41,9 @@ module _ (window : ℕ → Bool) (block : List Row) (s : Place) (o : ℕ) where
   -- n ticks from tick e come to their end inside, or to the first tick that is outside
   pub ticks-come : (n e t : ℕ) → t ≡ o + e → Comes n e (watched window block n e t (going block s e))
   ticks-come zero e t q = let z : e ≡ e + 0 = omega arith in (ap (λ m. going block s m .left) z, λ x l m. absurd (omega arith))
-  ticks-come (suc n) e t q = go (runs (doing block e (going block s e))) refl (window t) refl (ticks-come n (suc e) (suc t) (omega arith))
+  ticks-come (suc n) e t q = go (runsIn block e (going block s e)) refl (window t) refl (ticks-come n (suc e) (suc t) (omega arith))
     where
-      go : (a : Bool) → runs (doing block e (going block s e)) ≡ a → (b : Bool) → window t ≡ b
+      go : (a : Bool) → runsIn block e (going block s e) ≡ a → (b : Bool) → window t ≡ b
           → Comes n (suc e) (watched window block n (suc e) (suc t) (going block s (suc e)))
           → Comes (suc n) e (elim (a && not b) [ true ↦ left-at t | false ↦ watched window block n (suc e) (suc t) (going block s (suc e)) ])
       go true p true w i = one-more n e (λ h. rw q at w) (watched window block n (suc e) (suc t) (going block s (suc e))) i

@@ -8,7 +8,7 @@ use native.Mathlib.Omega.{arith}
 use lib.Dec.{leb}
 use lib.IntN.{ℤ}
 use Rattle.runs.specs.declared.turn.Turn.{Turn}
-use Rattle.runs.specs.Tick.{Row, runs, Place, doing, tick, turn, afterTurn}
+use Rattle.runs.specs.Tick.{Row, runs, Place, doing, runsIn, tick, turn, afterTurn}
 use Rattle.runs.specs.Windows.{inWindow, openUntil}
 use Rattle.runs.specs.Round.{Ticked, ended, left-at, watched, toldTicks}
 use Rattle.runs.proofs.Turns.{turn-after}
@@ -16,12 +16,12 @@ use Rattle.runs.proofs.Ends.{Open, Told, until-tells}
 
 -- one tick outside
 watched-out : (window : ℕ → Bool) (rows : List Row) (n e t : ℕ) (p : Place)
-    → (runs (doing rows e p) && not (window t)) ≡ true → watched window rows (suc n) e t p ≡ left-at t
+    → (runsIn rows e p && not (window t)) ≡ true → watched window rows (suc n) e t p ≡ left-at t
 watched-out window rows n e t p h = rw (h, watched)
 
 -- one tick inside
 watched-in : (window : ℕ → Bool) (rows : List Row) (n e t : ℕ) (p : Place)
-    → (runs (doing rows e p) && not (window t)) ≡ false → watched window rows (suc n) e t p ≡ watched window rows n (suc e) (suc t) (tick rows e p)
+    → (runsIn rows e p && not (window t)) ≡ false → watched window rows (suc n) e t p ≡ watched window rows n (suc e) (suc t) (tick rows e p)
 watched-in window rows n e t p h = rw (h, watched)
 
 -- a unit of so many ticks of supplier s in mode m, from tick `start` of the round with remaining times `left`
@@ -55,7 +55,7 @@ module _ (W : List ℤ) (s m : ℕ) (rows : List Row) (ticks start : ℕ) (left 
     told = subst (Told W s m (start + e) (t .runs)) (sym is-next) (until-tells W s m (start + e) until (t .runs) (h .still))
 
     -- the code's test is the definition's
-    outside : (runs (doing rows e here) && not (inWindow W s m (start + e))) ≡ (t .runs && leb next (start + e))
+    outside : (runsIn rows e here && not (inWindow W s m (start + e))) ≡ (t .runs && leb next (start + e))
     unfolding here
     outside = ap (λ (t : Turn). t .runs && not (inWindow W s m (start + e))) (sym is-turn) ∙ sym (told .outside)
 

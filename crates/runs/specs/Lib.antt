@@ -5,3 +5,4 @@ pub mod Windows
 pub mod Schedule
 pub mod Round
 pub mod Dominated
+pub mod Over

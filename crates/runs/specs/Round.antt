@@ -8,7 +8,7 @@ use lib.Dec.{leb}
 use lib.ListN.{set, replicate}
 use Rattle.theory.specs.Lists.{some, member}
 use Rattle.cells.specs.Limits.{maxTasks}
-use Rattle.runs.specs.Tick.{Row, leftOf, runs, Place, doing, tick}
+use Rattle.runs.specs.Tick.{Row, leftOf, Place, runsIn, tick}
 use Rattle.runs.specs.declared.unit.Watched.{Watched}
 
 -- what one supplier does in one mode: ticks of a unit and units of the round; by unit its block, the jobs released at the
@@ -55,13 +55,13 @@ module _ (C : Course) (c : Choice) (left : List ℕ) where
 pub record Good (C : Course) (c : Choice) (left : List ℕ) : Type 0 where
   -- every tick in which it runs lies in one of its windows
   pub inside : (k e : ℕ) → k < C .units → e < C .ticks
-      → runs (doing (C .block k) e (alone C c left k e)) ≡ true → C .window (k * C .ticks + e) ≡ true
+      → runsIn (C .block k) e (alone C c left k e) ≡ true → C .window (k * C .ticks + e) ≡ true
   -- every job has ended at each of its termination instants
   pub ends : (k j : ℕ) → k < C .units → member j (C .ending k) ≡ true → leftOf (alone C c left k (C .ticks) .left) j ≡ 0
 
 -- every execution time of a release is from one tick up to the job's worst case
-abbrev pub Fair : Course → Choice → Type 0
-Fair C c = (k j : ℕ) → member j (C .released k) ≡ true → (1 ≤ c k j) × (c k j ≤ C .worst j)
+abbrev pub WithinWorst : Course → Choice → Type 0
+WithinWorst C c = (k j : ℕ) → member j (C .released k) ≡ true → (1 ≤ c k j) × (c k j ≤ C .worst j)
 
 abbrev pub worstCase : Course → Choice
 worstCase C k j = C .worst j
@@ -80,7 +80,7 @@ pub data Ticked : Type 0 where
 -- (e ticks of the unit and t of the round have gone by before them)
 abbrev pub watched : (ℕ → Bool) → List Row → ℕ → ℕ → ℕ → Place → Ticked
 watched window block zero e t s = ended (s .left)
-watched window block (suc n) e t s = elim (runs (doing block e s) && not (window t)) [
+watched window block (suc n) e t s = elim (runsIn block e s && not (window t)) [
   | true ↦ left-at t
   | false ↦ watched window block n (suc e) (suc t) (tick block e s)
 ]
@@ -118,7 +118,7 @@ pub record OutsideAt (C : Course) (c : Choice) (left : List ℕ) (t : ℕ) : Typ
   pub in-round : unit < C .units
   pub in-unit : elapsed < C .ticks
   pub is-tick : t ≡ unit * C .ticks + elapsed
-  pub runs-then : runs (doing (C .block unit) elapsed (alone C c left unit elapsed)) ≡ true
+  pub runs-then : runsIn (C .block unit) elapsed (alone C c left unit elapsed) ≡ true
   pub no-window : C .window t ≡ false
 
 pub record LateAt (C : Course) (c : Choice) (left : List ℕ) (t : ℕ) : Type 0 where

@@ -24,9 +24,13 @@ abbrev pub done : Kind → ℕ → Bool
 done dispatch n = leb n 0
 done idle n = false
 
+-- a timeout is reached when so many ticks have gone by since the block's start
+abbrev pub reached : ℕ → ℕ → Bool
+reached timeout elapsed = leb timeout elapsed
+
 -- "skipped if the task is not running or the timeout is reached"; "idle waits for its timeout"
 abbrev pub skipped : ℕ → List ℕ → Row → Bool
-skipped elapsed left x = leb (x .timeout) elapsed || done (x .kind) (leftOf left (x .job))
+skipped elapsed left x = reached (x .timeout) elapsed || done (x .kind) (leftOf left (x .job))
 
 -- how many rows at the front are passed, on the values at the tick's start
 abbrev pub passed : List Row → ℕ → List ℕ → ℕ
@@ -67,6 +71,10 @@ moved block elapsed s = s .position + passed (drop (s .position) block) elapsed 
 
 abbrev pub doing : List Row → ℕ → Place → Act
 doing block elapsed s = act (drop (moved block elapsed s) block)
+
+-- a job runs in the tick
+abbrev pub runsIn : List Row → ℕ → Place → Bool
+runsIn block elapsed s = runs (doing block elapsed s)
 
 abbrev pub tick : List Row → ℕ → Place → Place
 tick block elapsed s = record { position = moved block elapsed s; left = after (doing block elapsed s) (s .left) }

@@ -2,18 +2,12 @@
 -- Assumes nothing.
 use Prim.Native.Nat.{ℕ, zero, suc, _+_, _*_, _≤_}
 use mathlib.Core.Path.{_≡_, refl, sym, _∙_}
-use mathlib.Core.Bool.{Bool, true, false, _&&_}
-use mathlib.Core.List.{List, [], _∷_}
+use mathlib.Core.List.{[], _∷_}
 use native.Mathlib.Omega.{arith}
-use lib.IntN.{ℤ, pos}
-use lib.Signed.{leZ}
+use lib.IntN.{pos}
 use lib.ListN.{length}
-use Rattle.theory.specs.Lists.{Every}
 use Rattle.theory.specs.Verdict.{Keep}
-use Rattle.theory.proofs.Bools.{clash}
-use Rattle.theory.proofs.Lists.{every-at}
 use Rattle.cells.specs.Cell.{numAt}
-use Rattle.cells.specs.Reading.{noReading, greatest, Value, Values}
 use Rattle.cells.proofs.Names.{past-end}
 use Rattle.program.specs.Tables.{taskWidth, taskSupplier, taskWorst}
 use Rattle.program.specs.Program.{programOf}
@@ -24,7 +18,7 @@ use Rattle.giotto.specs.Execution.{execution}
 use Rattle.giotto.specs.Successor.{Successor}
 use Rattle.giotto.proofs.Execution.{execution-succeeds}
 use Rattle.runs.specs.Tick.{leftOf}
-use Rattle.runs.specs.Round.{Choice, Fair, Good, nothing}
+use Rattle.runs.specs.Round.{Choice, WithinWorst, Good, nothing}
 use Rattle.suppliers.specs.Windows.{windowsVerdict}
 use Rattle.suppliers.specs.Supplier.{Asked, courseOf, windowedOf, partVerdict, supplierVerdict}
 use Rattle.demands.specs.Supplier.{DominatedUnit, ownWindows}
@@ -37,37 +31,20 @@ use Rattle.worked.specs.Computed.{computed}
 use Rattle.worked.specs.Programs.{F}
 use Rattle.worked.specs.Systems.{F-system, monitor, monitorWindows, monitor-system, mix, readings}
 
--- the numbers of a table are of 32 bits, by a test
-abbrev areValues : List ℤ → Bool
-areValues [] = true
-areValues (z ∷ zs) = leZ noReading z && leZ z greatest && areValues zs
-
-every-value : (t : List ℤ) → areValues t ≡ true → Every Value t
-every-value [] e = tt
-every-value (z ∷ zs) e = go (leZ noReading z) (leZ z greatest) refl refl e (every-value zs)
-  where
-    go : (a b : Bool) → leZ noReading z ≡ a → leZ z greatest ≡ b → (a && b && areValues zs) ≡ true → (areValues zs ≡ true → Every Value zs) → Every Value (z ∷ zs)
-    go true true p q f ih = ((p, q), ih f)
-    go true false p q f ih = clash {b = false} f refl
-    go false b p q f ih = clash {b = false} f refl
-
-values-by-test : (t : List ℤ) → areValues t ≡ true → Values t
-values-by-test t e = every-at Value t (pos 0) (refl, refl) (every-value t e)
-
 -- demand 2: both programs meet every rule
 pub F-verdict : programVerdict (F 6 2) ≡ 0
 unfolding computed
 F-verdict = refl
 
 pub F-rules : Keep programRules (F 6 2)
-F-rules = accepted-exactly (F 6 2) (values-by-test (F 6 2 .drivers) refl) .0 F-verdict
+F-rules = accepted-exactly (F 6 2) .0 F-verdict
 
 monitor-verdict : programVerdict (monitor 2) ≡ 0
 unfolding computed
 monitor-verdict = refl
 
 pub monitor-rules : Keep programRules (monitor 2)
-monitor-rules = accepted-exactly (monitor 2) (values-by-test (monitor 2 .drivers) refl) .0 monitor-verdict
+monitor-rules = accepted-exactly (monitor 2) .0 monitor-verdict
 
 -- 001's successor: F's first instant has one
 pub F-succeeds :
@@ -87,7 +64,7 @@ F-answer : supplierVerdict F-asked .number ≡ 0
 unfolding computed
 F-answer = refl
 
-pub F-good : (c : Choice) → Fair (courseOf F-asked 0) c → Good (courseOf F-asked 0) c nothing
+pub F-good : (c : Choice) → WithinWorst (courseOf F-asked 0) c → Good (courseOf F-asked 0) c nothing
 F-good c f = supplier-exact F-asked F-part .0 F-answer 0 (omega arith) c f
 
 -- domination from other remaining times than none: t1 has one tick left in the shorter run, and two in the longer

@@ -2,7 +2,7 @@
 -- `refl` runs a definition on a case. Assumes nothing.
 use Rattle.theory.specs.Search.{any, firstFrom, first}
 use Rattle.cells.specs.Cell.{nameOf, numAt, nameAt, wordAt}
-use Rattle.cells.specs.Reading.{inside, isMissing}
+use Rattle.cells.specs.Reading.{inside, isMissing, isValue}
 use Rattle.program.specs.Sets.{isKind, isTaskPort, modePortAt, isInput, isOutput, isModePort, copiesFrom, copiesTo, isSource, isDestination}
 use Rattle.program.specs.Units.{misses, rowMisses, isMultiple, units}
 use Rattle.rules.specs.Declared.{samePort, taskPortClash, taskPortsBad, copyClash, copiesBad, modePortClash, modePortsBad}
@@ -21,5 +21,5 @@ use Rattle.machine.specs.Advance.{freshAnswer, advanceShapeBad, stateOut, advan
 use Rattle.text.specs.Shipped.{shipped}
 
 unfoldable pub computed : Unit {0}
-unfolding any firstFrom first nameOf numAt nameAt wordAt inside isMissing isKind isTaskPort modePortAt isInput isOutput isModePort copiesFrom copiesTo isSource isDestination misses rowMisses isMultiple units samePort taskPortClash taskPortsBad copyClash copiesBad modePortClash modePortsBad inRange portBad taskBad taskPortBad alwaysFits intervalFits driverBad copyBad modeBad modePortBad invocationBad updateBad switchBad startBad fieldsBad ownPort outputWith inputWith portWith sourceWith destinationWith someOutput someInput somePort someSource someDestination unreadable invocationClash invocationWrong invocationsBad updateClash updateWrong updatesBad switchClash switchWrong switchesBad badSlice badLength shapeBad unitsWrong unitsBad notWhole wholeWrong wholeBad programVerdict listingOf codeLong sliceShort compileVerdict listing windowHas inWindow shareTick dispatchFits idleFits precedes rowWrong rowsBad partBad rowCount joinedBad partShapeBad partVerdict supplierVerdict windowWrong windowsBad windowsShapeBad windowsVerdict freshAnswer advanceShapeBad stateOut advanceVerdict advanceAnswer shipped
+unfolding any firstFrom first nameOf numAt nameAt wordAt inside isMissing isValue isKind isTaskPort modePortAt isInput isOutput isModePort copiesFrom copiesTo isSource isDestination misses rowMisses isMultiple units samePort taskPortClash taskPortsBad copyClash copiesBad modePortClash modePortsBad inRange portBad taskBad taskPortBad alwaysFits intervalFits driverBad copyBad modeBad modePortBad invocationBad updateBad switchBad startBad fieldsBad ownPort outputWith inputWith portWith sourceWith destinationWith someOutput someInput somePort someSource someDestination unreadable invocationClash invocationWrong invocationsBad updateClash updateWrong updatesBad switchClash switchWrong switchesBad badSlice badLength shapeBad unitsWrong unitsBad notWhole wholeWrong wholeBad programVerdict listingOf codeLong sliceShort compileVerdict listing windowHas inWindow shareTick dispatchFits idleFits precedes rowWrong rowsBad partBad rowCount joinedBad partShapeBad partVerdict supplierVerdict windowWrong windowsBad windowsShapeBad windowsVerdict freshAnswer advanceShapeBad stateOut advanceVerdict advanceAnswer shipped
 computed = tt

@@ -2,3 +2,4 @@
 pub mod Computed
 pub mod Programs
 pub mod Systems
+pub mod Blocks

@@ -1,10 +1,11 @@
 -- `fields::ranges::interval_fits` meets its contract: each field read is the definition's column, and low and high came back through their bits. Assumes nothing.
-use mathlib.Core.Path.{_≡_, ap, _∙_}
+use mathlib.Core.Path.{_≡_, sym, ap, _∙_}
 use lib.Signed.{leZ}
 use mir.Syntax.{w32}
 use mir.Val.{ofZ, toZ}
-use Rattle.cells.specs.Reading.{isMissing}
+use Rattle.cells.specs.Reading.{isMissing, isValue}
 use Rattle.cells.proofs.Ints.{back, back₂}
+use Rattle.cells.proofs.Readings.{fits-is-value}
 use borrow.Author.Needs.{needs}
 use Rattle.rules.specs.Fields.{intervalFits}
 use Rattle.fields.proofs.ranges.interval_fits.Statement.{statement}
@@ -43,6 +44,8 @@ returns c T e1 e2 =
     c .before .before .at-most .ensures ∙ back₂ leZ (low .result) (high .result) (low .ok) (high .ok) in
     let told-low : c .before .is-missing .result ≡ isMissing (toZ w32 (ofZ w32 (low .result))) = c .before .is-missing .ensures in
     let told-high : c .is-missing2 .result ≡ isMissing (toZ w32 (ofZ w32 (high .result))) = c .is-missing2 .ensures in
+    let of-low = sym (ap isValue (low .ensures)) ∙ fits-is-value (low .result) (low .ok) in
+    let of-high = sym (ap isValue (high .ensures)) ∙ fits-is-value (high .result) (high .ok) in
     simp (
       told-high ∙ ap isMissing (back (high .result) (high .ok)),
       told-low ∙ ap isMissing (back (low .result) (low .ok)),
@@ -54,6 +57,8 @@ returns c T e1 e2 =
       c .before .before .before .before .before .before .before .field .ensures,
       e1,
       e2,
+      of-low,
+      of-high,
     )
 
 pub interval-fits-spec : {M : Type 1} → statement M

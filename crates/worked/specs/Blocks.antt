@@ -1,0 +1,45 @@
+-- Blocks of schedule code that tell timeouts, idles and cut-off dispatches apart, and what runs in them tick by tick.
+-- Assumes nothing.
+use Prim.Native.Nat.{ℕ, zero, suc}
+use mathlib.Core.List.{List, [], _∷_}
+use lib.IntN.{ℤ, pos}
+use Rattle.runs.specs.Tick.{dispatch, idle, Row, Act, Place, doing, tick}
+use Rattle.suppliers.specs.Supplier.{supplierVerdict}
+use Rattle.suppliers.specs.declared.Answer.{Answer}
+use Rattle.worked.specs.Programs.{numbers, F}
+
+-- a dispatch of a job, and an idle, up to a timeout
+abbrev pub dispatchTo : ℕ → ℕ → Row
+dispatchTo job timeout = record { kind = dispatch; job = job; timeout = timeout }
+
+abbrev pub idleTo : ℕ → Row
+idleTo timeout = record { kind = idle; job = 0; timeout = timeout }
+
+-- a block begins with these remaining times
+abbrev pub from : List ℕ → Place
+from left = record { position = 0; left = left }
+
+-- what runs in n ticks of a block, when e have gone by
+abbrev pub acts : List Row → ℕ → ℕ → Place → List Act
+acts block zero e s = []
+acts block (suc n) e s = doing block e s ∷ acts block n (suc e) (tick block e s)
+
+-- the place after them
+abbrev pub place : List Row → ℕ → ℕ → Place → Place
+place block zero e s = s
+place block (suc n) e s = place block n (suc e) (tick block e s)
+
+-- F's supplier with an idle row and timeouts inside the units. In the block at 9: idle to 1, t2 to 3, t1 to 4; in the block at 15: t2, t1, to 5.
+-- With worst-case times 4 and 2, t2 runs in ticks 1, 2, 5 and 6, t1 in ticks 3, 7, 8 and 9.
+abbrev pub cutOff : List ℤ
+cutOff = numbers
+    (0 ∷ 9 ∷ 1 ∷ 0 ∷ 1 ∷ 0 ∷ 9 ∷ 0 ∷ 1 ∷ 3 ∷ 0 ∷ 9 ∷ 0 ∷ 0 ∷ 4 ∷ 0 ∷ 15 ∷ 0 ∷ 1 ∷ 5 ∷ 0 ∷ 15 ∷ 0 ∷ 0 ∷ 5 ∷ [])
+
+-- the answer for t1's worst-case time and these two windows
+abbrev pub cutOffAnswer : ℕ → ℕ → ℕ → ℕ → ℕ → Answer
+cutOffAnswer worst1 from1 to1 from2 to2 = supplierVerdict (record {
+  tables = F worst1 2;
+  windows = numbers (0 ∷ 0 ∷ from1 ∷ to1 ∷ 0 ∷ 0 ∷ from2 ∷ to2 ∷ []);
+  part = cutOff;
+  supplier = pos 0;
+})
