@@ -3,9 +3,9 @@
 use Prim.Native.Nat.{ℕ, zero, suc, _<_}
 use mathlib.Core.Path.{_≡_, refl, sym, ap, _∙_}
 use mathlib.Core.Bool.{Bool, true, false}
-use Rattle.theory.specs.Verdict.{orElse}
+use Rattle.theory.specs.Verdict.{orElse, after}
 use Rattle.theory.proofs.Conditions.{or-else-yes, or-else-no}
-use Rattle.theory.proofs.Verdict.{after, after-given, after-none}
+use Rattle.theory.proofs.Verdict.{after-given, after-none}
 use Rattle.rules.specs.Shape.{shapeBad}
 use Rattle.rules.specs.Verdict.{programVerdict}
 use Rattle.code.specs.Compile.{CodeFits}

@@ -2,8 +2,7 @@
 use Prim.Native.Nat.{ℕ}
 use mathlib.Core.List.{List}
 use lib.IntN.{ℤ}
-use Rattle.theory.specs.Verdict.{orElse}
-use Rattle.theory.proofs.Verdict.{after}
+use Rattle.theory.specs.Verdict.{orElse, after}
 use Rattle.program.specs.Tables.{Tables}
 use Rattle.lent.specs.Tables.{lentVerdict}
 use Rattle.suppliers.specs.Windows.{Windowed, windowsBad}

@@ -8,9 +8,9 @@ use native.Mathlib.Omega.{arith}
 use lib.Dec.{ltb}
 use lib.ListN.{length, getD}
 use borrow.Author.Tests.{ltb-false}
-use Rattle.theory.specs.Verdict.{orElse, within, verdict}
+use Rattle.theory.specs.Verdict.{orElse, within, verdict, after}
 use Rattle.theory.proofs.Bools.{neither}
-use Rattle.theory.proofs.Verdict.{after, verdict-append, verdict-within}
+use Rattle.theory.proofs.Verdict.{verdict-append, verdict-within}
 use Rattle.cells.specs.Limits.{maxCode, wordsEach}
 use Rattle.program.specs.Tables.{Tables, startMode}
 use Rattle.program.specs.Program.{programOf}

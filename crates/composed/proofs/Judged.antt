@@ -8,10 +8,10 @@ use native.Mathlib.Omega.{arith}
 use lib.IntN.{ℤ}
 use lib.ListN.{length}
 use borrow.Author.Tests.{le-ltb}
-use Rattle.theory.specs.Verdict.{Refusal, within, verdict}
+use Rattle.theory.specs.Verdict.{Refusal, within, verdict, after}
 use Rattle.theory.proofs.Bools.{bars-iff}
 use Rattle.theory.proofs.Conditions.{or-else-no}
-use Rattle.theory.proofs.Verdict.{after, clear-verdict, verdict-append, verdict-skip, verdict-within}
+use Rattle.theory.proofs.Verdict.{clear-verdict, verdict-append, verdict-skip, verdict-within}
 use Rattle.cells.specs.Limits.{maxPorts, maxTasks, maxCode, wordsEach}
 use Rattle.program.specs.Tables.{Tables}
 use Rattle.rules.specs.Shape.{WholeRows}

@@ -19,7 +19,8 @@ use Rattle.composed.specs.Sound.{Sound}
 use Rattle.composed.specs.Suited.{Suited}
 use Rattle.composed.specs.Related.{Related}
 use Rattle.composed.proofs.Run.{related-tick}
-use Rattle.demands.specs.Composed.{System, compiling, Accepted, joined, code, advanced, stateAt, readings, configurationAt, Fair, Right, ComposedRun, SameValues, RelationKept, RelatedAlways}
+use Rattle.demands.specs.Composed.{System, compiling, Accepted, joined, code, advanced, stateAt, readings, configurationAt, Fair, Right, ComposedRun, SameValues}
+use Rattle.demands.specs.Relation.{RelationKept, RelatedAlways}
 use Rattle.demands.proofs.Calls.{fresh-number}
 use Rattle.demands.proofs.Sound.{accepted-sound}
 

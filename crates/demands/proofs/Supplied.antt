@@ -8,7 +8,7 @@ use mathlib.Core.List.{List}
 use native.Mathlib.Omega.{arith}
 use lib.IntN.{ℤ, pos}
 use lib.ListN.{length, replicate}
-use Rattle.theory.specs.Lists.{each, member}
+use Rattle.theory.specs.Lists.{member}
 use Rattle.theory.proofs.Lists.{each-length, each-at}
 use Rattle.theory.proofs.Puts.{puts-length}
 use Rattle.cells.specs.Cell.{indexOf, numAt}
@@ -33,12 +33,8 @@ use Rattle.machine.specs.Schedules.{Who, nobody, one, several, running}
 use Rattle.machine.specs.Advance.{ready}
 use Rattle.machine.specs.declared.State.{State}
 use Rattle.demands.specs.Composed.{System, joined, code, advanced, stateAt, Fair}
-use Rattle.demands.specs.Supplied.{givenBy, givenIn, lentTo, history, supplied, SuppliedRight}
+use Rattle.demands.specs.Supplied.{givenBy, givenIn, lentTo, history, supplied, worstTimes, SuppliedRight}
 use Rattle.demands.proofs.Composed.{composed-run}
-
--- each task's worst-case time, as it is lent
-abbrev pub worstTimes : Program → List ℤ
-worstTimes P = each (λ t. pos (task P t .worst)) maxTasks 0
 
 module _ (Y : System) (F : Function) (readings times : ℕ → List ℤ) where
   abbrev P : Program

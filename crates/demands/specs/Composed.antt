@@ -9,18 +9,15 @@ use Rattle.theory.specs.Lists.{cat}
 use Rattle.cells.specs.Limits.{suppliers}
 use Rattle.program.specs.Tables.{Tables}
 use Rattle.program.specs.Program.{programOf}
-use Rattle.code.specs.Op.{emit}
-use Rattle.code.specs.Compile.{listingOf, Compiling, compileVerdict, wordsOf}
+use Rattle.code.specs.Compile.{Compiling, compileVerdict, wordsOf}
 use Rattle.suppliers.specs.Windows.{windowsVerdict}
 use Rattle.suppliers.specs.Supplier.{supplierVerdict}
 use Rattle.giotto.specs.Instant.{Configuration, Function}
-use Rattle.giotto.specs.Execution.{pass, execution, portsAt}
+use Rattle.giotto.specs.Execution.{execution, portsAt}
 use Rattle.machine.specs.Advance.{Lent, freshAnswer, advanceAnswer}
 use Rattle.machine.specs.declared.State.{State}
 use Rattle.machine.specs.declared.Advanced.{Advanced}
-use Rattle.composed.specs.Sound.{Sound}
-use Rattle.composed.specs.Suited.{byCompiled, Suited}
-use Rattle.composed.specs.Related.{Related}
+use Rattle.composed.specs.Suited.{Suited}
 
 -- what is composed: the tables, the windows, each supplier's part of the schedule, and the slice that is lent for compiling
 pub record System : Type 0 where
@@ -89,19 +86,3 @@ SameValues =
     → (F : Function) (lents others : ℕ → Lent) → ((k : ℕ) → lents k .readings ≡ others k .readings)
     → (n : ℕ) → ((k : ℕ) → k ≤ n → Fair Y F lents k) → ((k : ℕ) → k ≤ n → Fair Z F others k)
     → stateAt Y lents (suc n) .ports ≡ stateAt Z others (suc n) .ports
-
--- The relation between Giotto's configuration and the machine's state (composed/specs/Related) that the proof carries is kept by one tick
-abbrev pub RelationKept : Type 0
-RelationKept =
-    (T : Tables) (W S : List ℤ) → Sound T W S
-    → (F : Function) (n : ℕ) (C : Configuration) (s : State) (X : Lent)
-    → Suited T (emit (listingOf T)) S F n C s X
-    → Related T W S F n C s
-    → let a = advanceAnswer (byCompiled T S X s) in
-    (a .number ≡ 0) × Related T W S F (suc n) (pass (programOf T) F n (X .readings) C) (a .state)
-
--- and holds before every tick of a composed run
-abbrev pub RelatedAlways : Type 0
-RelatedAlways =
-    (Y : System) → Accepted Y → (F : Function) (lents : ℕ → Lent) (n : ℕ) → ((k : ℕ) → k < n → Fair Y F lents k)
-    → Related (Y .tables) (Y .windows) (joined Y) F n (configurationAt Y F lents n) (stateAt Y lents n)

@@ -5,6 +5,7 @@ pub mod Verdict
 pub mod Supplier
 pub mod Compiled
 pub mod Composed
+pub mod Relation
 pub mod Supplied
 pub mod Ticks
 pub mod Giotto

@@ -6,7 +6,7 @@ use mathlib.Core.Bool.{true}
 use mathlib.Core.List.{List}
 use lib.IntN.{ℤ, pos}
 use lib.ListN.{length, replicate}
-use Rattle.theory.specs.Lists.{member, puts}
+use Rattle.theory.specs.Lists.{each, member, puts}
 use Rattle.cells.specs.Cell.{numAt}
 use Rattle.cells.specs.Limits.{maxPorts, maxTasks}
 use Rattle.program.specs.Program.{Program, programOf, task}
@@ -47,6 +47,10 @@ module _ (Y : System) (F : Function) (readings times : ℕ → List ℤ) where
 
   abbrev pub supplied : ℕ → Lent
   supplied n = lentTo n (history n)
+
+-- each task's worst-case time, as it is lent
+abbrev pub worstTimes : Program → List ℤ
+worstTimes P = each (λ t. pos (task P t .worst)) maxTasks 0
 
 -- So every accepted system runs as Giotto's execution, for any task function, any readings and any times in range
 abbrev pub SuppliedRight : Type 0

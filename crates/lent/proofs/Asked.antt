@@ -8,9 +8,9 @@ use mathlib.Core.List.{List, [], _∷_, _++_, map}
 use native.Mathlib.Omega.{arith}
 use lib.ListN.{length}
 use borrow.Author.Tests.{ltb-false}
-use Rattle.theory.specs.Verdict.{Refusal, within, verdict}
+use Rattle.theory.specs.Verdict.{Refusal, within, verdict, after}
 use Rattle.theory.proofs.Conditions.{or-else-no}
-use Rattle.theory.proofs.Verdict.{after, verdict-clear, verdict-append, verdict-both, verdict-within}
+use Rattle.theory.proofs.Verdict.{verdict-clear, verdict-append, verdict-both, verdict-within}
 use Rattle.cells.specs.Limits.{maxCode}
 use Rattle.program.specs.Tables.{Tables}
 use Rattle.rules.specs.Shape.{shapeBad}

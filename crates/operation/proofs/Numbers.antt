@@ -6,10 +6,10 @@ use mathlib.Core.Bool.{true, false}
 use mathlib.Core.List.{List, [], _∷_, _++_, map}
 use native.Mathlib.Omega.{arith}
 use lib.ListN.{length}
-use Rattle.theory.specs.Verdict.{Refusal, orElse, within}
+use Rattle.theory.specs.Verdict.{Refusal, orElse, within, after}
 use Rattle.theory.proofs.Bools.{bars-iff}
 use Rattle.theory.proofs.Conditions.{or-else-yes, or-else-no}
-use Rattle.theory.proofs.Verdict.{after, after-given, verdict-clear, verdict-both}
+use Rattle.theory.proofs.Verdict.{after-given, verdict-clear, verdict-both}
 use Rattle.cells.specs.Limits.{maxDrivers, maxCode, wordsEach}
 use Rattle.program.specs.Tables.{driverWidth}
 use Rattle.rules.specs.Shape.{shapeBad}

@@ -32,12 +32,15 @@ module _ (e : ℕ) (left : List ℕ) where
   split (x ∷ xs) = go (skipped e left x) refl (split xs)
     where
       go : (b : Bool) → skipped e left x ≡ b → (behind : List Row) × PassedTo e left xs behind → (behind : List Row) × PassedTo e left (x ∷ xs) behind
-      go true h (behind, p) = (behind, record {
-        before = x ∷ p .before;
-        in-order = ap (λ (ys : List Row). x ∷ ys) (p .in-order);
-        all-over = (over-says x .yes h, p .all-over);
-        not-over = p .not-over;
-      })
+      go true h (behind, p) = (
+        behind,
+        record {
+          before = x ∷ p .before;
+          in-order = ap (λ (ys : List Row). x ∷ ys) (p .in-order);
+          all-over = (over-says x .yes h, p .all-over);
+          not-over = p .not-over;
+        },
+      )
       go false h w = (x ∷ xs, record { before = []; in-order = refl; all-over = tt; not-over = over-says x .no h })
 
   -- those are as many as the definition counts

@@ -7,12 +7,7 @@ use mathlib.Core.List.{List, [], _∷_, _++_, map}
 use mathlib.Core.Logic.{_⊎_, inl, inr, _↔_}
 use native.Mathlib.Omega.{arith}
 use Rattle.theory.specs.Claim.{Bars}
-use Rattle.theory.specs.Verdict.{orElse, Refusal, within, verdict, Rule, holding, First, Keep}
-
--- the first number, and the second where the first is none
-abbrev pub after : ℕ → ℕ → ℕ
-after zero n = n
-after (suc m) n = suc m
+use Rattle.theory.specs.Verdict.{orElse, Refusal, within, verdict, Rule, holding, First, Keep, after}
 
 -- a number that was given stays
 pub after-given : (m n : ℕ) → 0 < m → after m n ≡ m

@@ -1,6 +1,6 @@
 -- "The first number that applies, in this order, is the verdict": once, for every call.
 -- Assumes nothing.
-use Prim.Native.Nat.{ℕ}
+use Prim.Native.Nat.{ℕ, zero, suc}
 use mathlib.Core.Path.{_≡_}
 use mathlib.Core.Bool.{Bool, true, false}
 use mathlib.Core.List.{List, [], _∷_}
@@ -10,6 +10,11 @@ use mathlib.Core.Logic.{_⊎_}
 abbrev pub orElse : Bool → ℕ → ℕ → ℕ
 orElse true n rest = n
 orElse false n rest = rest
+
+-- the first number, and the second where the first is none
+abbrev pub after : ℕ → ℕ → ℕ
+after zero n = n
+after (suc m) n = suc m
 
 -- a refusal: its number, and the test that says whether it applies to what is lent
 pub record Refusal (A : Type 0) : Type 0 where

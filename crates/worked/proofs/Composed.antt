@@ -28,10 +28,10 @@ use Rattle.compiled.specs.Done.{modeEntered, tasksReleased, done, AtBlock}
 use Rattle.composed.specs.Related.{Related}
 use Rattle.demands.specs.Compiled.{instantOf}
 use Rattle.demands.specs.Composed.{compiling, joined, configurationAt, stateAt, Fair, Right}
-use Rattle.demands.specs.Supplied.{supplied}
+use Rattle.demands.specs.Supplied.{supplied, worstTimes}
 use Rattle.demands.proofs.Compiled.{compiled-instant}
 use Rattle.demands.proofs.Composed.{composed-run, same-values, related-always}
-use Rattle.demands.proofs.Supplied.{worstTimes, premises-met, worst-case-fair}
+use Rattle.demands.proofs.Supplied.{premises-met, worst-case-fair}
 use Rattle.worked.specs.Computed.{computed}
 use Rattle.worked.specs.Programs.{F}
 use Rattle.worked.specs.Systems.{F-system, monitor-system, mix, readings, gaps, times}

@@ -22,14 +22,14 @@ use Rattle.runs.specs.Round.{Choice, WithinWorst, Good, nothing}
 use Rattle.suppliers.specs.Windows.{windowsVerdict}
 use Rattle.suppliers.specs.Supplier.{Asked, courseOf, windowedOf, partVerdict, supplierVerdict}
 use Rattle.demands.specs.Supplier.{DominatedUnit, ownWindows}
-use Rattle.demands.specs.Supplied.{supplied}
+use Rattle.demands.specs.Supplied.{supplied, worstTimes}
 use Rattle.demands.specs.Composed as composed
 use Rattle.demands.proofs.Verdict.{accepted-exactly}
 use Rattle.demands.proofs.Supplier.{supplier-exact, domination, independent}
-use Rattle.demands.proofs.Supplied.{worstTimes, worst-case-fair}
+use Rattle.demands.proofs.Supplied.{worst-case-fair}
 use Rattle.worked.specs.Computed.{computed}
 use Rattle.worked.specs.Programs.{F}
-use Rattle.worked.specs.Systems.{F-system, monitor, monitorWindows, monitor-system, mix, readings}
+use Rattle.worked.specs.Systems.{F-system, F-asked, monitor, monitorWindows, monitor-system, mix, readings}
 
 -- demand 2: both programs meet every rule
 pub F-verdict : programVerdict (F 6 2) ≡ 0
@@ -53,9 +53,6 @@ pub F-succeeds :
 F-succeeds = execution-succeeds (F 6 2) F-rules mix readings 0 refl
 
 -- demand 3, first half: F's code keeps to its window and ends in time for every choice of execution times
-abbrev pub F-asked : Asked
-F-asked = record { tables = F 6 2; windows = F-system .windows; part = F-system .parts 0; supplier = pos 0 }
-
 pub F-part : partVerdict F-asked ≡ 0
 unfolding computed
 F-part = refl

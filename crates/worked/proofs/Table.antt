@@ -52,10 +52,10 @@ F-listing : listingOf (F 6 2)
 unfolding computed
 F-listing = refl
 
--- a mode without rows, no sensor: 3 instructions
-bare-length : length (listingOf bare) ≡ 3
+-- a mode without rows, no sensor: accepted, and 3 instructions
+bare-length : (programVerdict bare ≡ 0) × (length (listingOf bare) ≡ 3)
 unfolding computed
-bare-length = refl
+bare-length = (refl, refl)
 
 -- frequencies 3 and 64: 9; frequency 2, period 9: 9
 frequencies-3-and-64 : programVerdict (updated 192 (3 ∷ 64 ∷ [])) ≡ 9

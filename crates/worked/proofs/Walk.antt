@@ -23,8 +23,9 @@ use Rattle.rounds.specs.Course.{courseOn}
 use Rattle.rounds.proofs.Courses.{judged-counted}
 use Rattle.worked.specs.Computed.{computed}
 use Rattle.worked.specs.Programs.{F, window, schedule}
+use Rattle.worked.specs.Systems.{F-asked}
 use Rattle.worked.proofs.Table.{F-length}
-use Rattle.worked.proofs.Instances.{F-asked, F-verdict, F-part}
+use Rattle.worked.proofs.Instances.{F-verdict, F-part}
 
 -- both blocks, at addresses 9 and 15
 abbrev rows : List ℤ

@@ -11,6 +11,7 @@ use Rattle.cells.specs.Limits.{wordsEach}
 use Rattle.cells.specs.Reading.{noReading}
 use Rattle.program.specs.Tables.{Tables, tables, sensor, actuator, input, output}
 use Rattle.program.specs.Program.{programOf}
+use Rattle.suppliers.specs.Supplier.{Asked}
 use Rattle.giotto.specs.Instant.{Configuration, Function}
 use Rattle.giotto.specs.Execution.{initial, pass}
 use Rattle.machine.specs.declared.State.{State}
@@ -31,6 +32,10 @@ room = replicate (wordsEach * 64) 0
 
 abbrev pub F-system : System
 F-system = record { tables = F 6 2; windows = window 0 10; parts = partsOf (schedule 1 0) []; slice = room }
+
+-- what F's supplier is asked about
+abbrev pub F-asked : Asked
+F-asked = record { tables = F 6 2; windows = F-system .windows; part = F-system .parts 0; supplier = pos 0 }
 
 -- The monitor. Ports: 0 the measured resistance, 1 the relay, 2 and 3 the tasks' inputs, 4 their output.
 -- Mode 0, period 4: task 0 of supplier 0, twice; a missing reading switches to mode 1.

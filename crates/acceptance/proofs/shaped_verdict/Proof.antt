@@ -5,10 +5,10 @@ use mathlib.Core.Path.{_≡_, refl, sym, ap, subst, _∙_}
 use native.Mathlib.Omega.{arith}
 use lib.IntN.{ℤ}
 use borrow.Author.Needs.{needs}
-use Rattle.theory.specs.Verdict.{orElse}
+use Rattle.theory.specs.Verdict.{orElse, after}
 use Rattle.theory.proofs.Conditions.{or-else-yes, or-else-no}
 use Rattle.theory.proofs.Search.{hit, miss}
-use Rattle.theory.proofs.Verdict.{after, after-given}
+use Rattle.theory.proofs.Verdict.{after-given}
 use Rattle.cells.proofs.Ints.{back}
 use Rattle.program.specs.Tables.{Tables, tables}
 use Rattle.rules.specs.Shape.{shapeBad}

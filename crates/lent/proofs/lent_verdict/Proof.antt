@@ -6,9 +6,9 @@ use mathlib.Core.List.{[], _∷_}
 use native.Mathlib.Omega.{arith}
 use lib.IntN.{ℤ}
 use borrow.Author.Needs.{needs}
-use Rattle.theory.specs.Verdict.{orElse, verdict}
+use Rattle.theory.specs.Verdict.{orElse, verdict, after}
 use Rattle.theory.proofs.Conditions.{or-else-yes, or-else-no}
-use Rattle.theory.proofs.Verdict.{after, after-given, verdict-append}
+use Rattle.theory.proofs.Verdict.{after-given, verdict-append}
 use Rattle.cells.proofs.Ints.{back}
 use Rattle.program.specs.Tables.{Tables, tables}
 use Rattle.rules.specs.Shape.{shapeBad}
