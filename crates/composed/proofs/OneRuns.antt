@@ -1,4 +1,4 @@
--- No two suppliers run in one tick: who runs, runs in one of its windows, since its worst-case run alone runs too.
+-- Who runs, runs in one of its windows, since its worst-case run alone runs too. So no two suppliers run in one tick.
 -- Assumes that the system is sound, that a unit goes on, and that a tick of it remains.
 use Prim.Native.Nat.{ℕ, _+_, _*_, _≤_, _<_}
 use mathlib.Core.Path.{_≡_, subst}
@@ -10,9 +10,10 @@ use Rattle.cells.specs.Limits.{suppliers}
 use Rattle.program.specs.Tables.{Tables}
 use Rattle.program.specs.Program.{Program, programOf, mode, ticksOf}
 use Rattle.runs.specs.Tick.{runs, runsIn}
-use Rattle.runs.specs.Windows.{inWindow}
+use Rattle.runs.specs.Windows.{inWindow, InWindow}
 use Rattle.runs.specs.Schedule.{blockOf}
 use Rattle.runs.proofs.Tick.{tick-runs}
+use Rattle.runs.proofs.Windows.{in-window-says}
 use Rattle.suppliers.proofs.Windows.{windows-one}
 use Rattle.suppliers.proofs.Dispatched.{own-rows}
 use Rattle.giotto.specs.Instant.{Configuration, Function}
@@ -28,18 +29,21 @@ module _ (T : Tables) (W S : List ℤ) (F : Function) (sound : Sound T W S) (k n
   P = programOf T
 
   -- the tick of the round
-  now : ℕ
+  abbrev now : ℕ
   now = k * ticksOf (mode P (C .mode)) + u .elapsed
 
   -- who runs, runs in its window
   inside : (j : ℕ) → j < suppliers → runs (actOf S u j) ≡ true → inWindow W j (C .mode) now ≡ true
-  unfolding now
   inside j l r =
       let d = worstRun T W S F j (C .mode) k (u .elapsed) in
       let e = tick-runs (OwnedBy P j) (blockOf S j (u .current)) (u .elapsed) (placeOf S u j) d
       (own-rows T S (sound .joined .rows) j (u .current)) (h .ahead j l) r in
       sound .good j (C .mode) l (h .declared) .inside k (u .elapsed) (h .in-round) (omega (arith, h .ticks))
       (subst (λ (a : ℕ). runsIn (blockOf S j a) (u .elapsed) d ≡ true) (h .current) e)
+
+  pub windows-kept : (j : ℕ) → j < suppliers → runs (actOf S u j) ≡ true
+      → InWindow W j (C .mode) (k * ticksOf (mode P (C .mode)) + u .elapsed)
+  windows-kept j l r = in-window-says W j (C .mode) now .yes (inside j l r)
 
   -- two that run are one
   pub one-runs : (i j : ℕ) → i < suppliers → j < suppliers → runs (actOf S u i) ≡ true → runs (actOf S u j) ≡ true → i ≡ j

@@ -1,41 +1,27 @@
 -- One tick of a composed run: it is accepted, and keeps the relation between Giotto's configuration and the machine's state.
 -- Assumes that the system is sound, that what is lent to the tick suits it, and that the relation holds before it.
-use Prim.Native.Nat.{ℕ, suc, _≤_, _<_}
+use Prim.Native.Nat.{ℕ, suc}
 use mathlib.Core.Path.{_≡_, sym, ap, subst, _∙_}
-use mathlib.Core.Bool.{true}
 use mathlib.Core.List.{List}
-use mathlib.Core.Logic.{inl, inr}
-use mathlib.Core.Option.{Option}
-use native.Mathlib.Decide.{ℕ-discrete}
-use native.Mathlib.Omega.{arith}
+use mathlib.Core.Logic.{inr}
 use lib.IntN.{ℤ}
-use Rattle.theory.specs.Lists.{member}
-use Rattle.cells.specs.Cell.{numAt}
 use Rattle.program.specs.Tables.{Tables}
-use Rattle.program.specs.Program.{Program, Switch, programOf, task, mode, dueTasks}
-use Rattle.rules.specs.Fields.{InRange}
-use Rattle.rules.proofs.Accepted.{accepted-ticks}
+use Rattle.program.specs.Program.{Program, programOf}
 use Rattle.code.specs.Op.{emit, instructions}
 use Rattle.code.specs.Compile.{listingOf}
-use Rattle.giotto.specs.Instant.{Configuration, Function, results, sensed, switchOf, modeAfter, unitAfter, afterSwitch, afterDrivers}
+use Rattle.giotto.specs.Instant.{Configuration, Function}
 use Rattle.giotto.specs.Execution.{pass}
-use Rattle.giotto.proofs.Execution.{pass-goes, releases-then, pass-stays}
 use Rattle.machine.specs.declared.State.{State}
 use Rattle.machine.specs.declared.Advanced.{Advanced}
 use Rattle.machine.specs.Instant.{ok}
 use Rattle.machine.specs.Schedules.{tickAll}
-use Rattle.machine.specs.Advance.{Lent, ready, answer, advanceAnswer}
-use Rattle.machine.proofs.Ready.{ready-waits, ready-runs, goes}
+use Rattle.machine.specs.Advance.{Lent, answer, advanceAnswer}
+use Rattle.machine.proofs.Ready.{goes}
 use Rattle.machine.proofs.Answered.{advance-steps}
-use Rattle.compiled.specs.Done.{tasksReleased}
-use Rattle.compiled.proofs.Does.{words-do}
-use Rattle.compiled.proofs.Leaves.{instant-done}
 use Rattle.composed.specs.Sound.{Sound}
 use Rattle.composed.specs.Suited.{byCompiled, Suited}
 use Rattle.composed.specs.Related.{Going, Related}
-use Rattle.composed.proofs.Edge.{Edge, fresh-edge, going-edge}
-use Rattle.composed.proofs.Arrived.{Arrived}
-use Rattle.composed.proofs.Entered.{after, done-is, released-are, arrived, enters}
+use Rattle.composed.proofs.Readied.{Readied, readied}
 use Rattle.composed.proofs.Ticked.{tick-related}
 use Rattle.composed.proofs.Judged.{related-verdict}
 
@@ -43,72 +29,7 @@ module _ (T : Tables) (W S : List ℤ) (F : Function) (n : ℕ) (C : Configurati
   abbrev P : Program
   P = programOf T
 
-  -- the E part of a tick is not refused, and leaves a unit going on with a tick remaining
-  record Readied : Type 0 where
-    unit : ℕ
-    state : State
-    runs : ready P (instructions (emit (listingOf T))) (X .readings) (X .times) s ≡ ok state
-    keeps : Going T W S F unit n (pass P F n (X .readings) C) state
-    more : 1 ≤ state .remaining
-
   module _ (h : Sound T W S) (x : Suited T (emit (listingOf T)) S F n C s X) where
-    -- an instant is run
-    edge-readied : Edge T W S F n C s → s .remaining ≡ 0 → Readied
-    edge-readied g z =
-        record {
-          unit = unitAfter (C .unit) w;
-          state = after T W S F h n C s g (X .readings) (X .times);
-          runs =
-              ready-runs P (instructions (emit (listingOf T))) (X .readings) (X .times) s z
-              ∙ words-do T (h .accepted) (X .readings) (X .times) (C .mode) (C .unit) s (g .at)
-              ∙ instant-done T (h .accepted) (X .readings) (X .times) (C .mode) (C .unit) s (g .at .declared) (g .ended)
-              (λ t m. there .ended t (as-due t m)) (λ t m. in-range t (as-due t m))
-              ∙ ap ok (done-is T W S F h n C s g (X .readings) (X .times));
-          keeps =
-              subst (λ (D : Configuration). Going T W S F (unitAfter (C .unit) w) n D (after T W S F h n C s g (X .readings) (X .times)))
-              (sym (pass-goes P F n (X .readings) C (g .stamp)))
-              (enters T W S F h n C s g (X .readings) (X .times) in-range);
-          more = accepted-ticks T (h .accepted) (modeAfter (C .mode) w) (there .declared) .0;
-        }
-      where
-        v : List ℤ
-        v = sensed P (results P F (C .ports)) (X .readings) C
-
-        w : Option Switch
-        w = switchOf P C v
-
-        there : Arrived T W S F C s (modeAfter (C .mode) w) (unitAfter (C .unit) w)
-            (afterDrivers P (mode P (modeAfter (C .mode) w)) (unitAfter (C .unit) w) (afterSwitch P w v))
-        there = arrived T W S F h n C s g (X .readings) (X .times)
-
-        due : List ℕ
-        due = dueTasks (mode P (modeAfter (C .mode) w)) (unitAfter (C .unit) w)
-
-        as-due : (t : ℕ) → member t (tasksReleased P (X .readings) (C .mode) (C .unit) s) ≡ true → member t due ≡ true
-        as-due t = subst (λ (ts : List ℕ). member t ts ≡ true) (released-are T W S F h n C s g (X .readings) (X .times))
-
-        in-range : (t : ℕ) → member t due ≡ true → InRange (numAt (X .times) t) (task P t .worst)
-        in-range t m = x .times t (subst (λ (ts : List ℕ). member t ts ≡ true) (sym (releases-then P F n (X .readings) C (g .stamp))) m)
-
-    -- nothing is run
-    going-readied : (k : ℕ) → Going T W S F k n C s → 0 < s .remaining → Readied
-    going-readied k g l =
-        record {
-          unit = k;
-          state = s;
-          runs = ready-waits P (instructions (emit (listingOf T))) (X .readings) (X .times) s l;
-          keeps = subst (λ (D : Configuration). Going T W S F k n D s) (sym (pass-stays P F n (X .readings) C (λ e. omega (arith, g .stamp, e)))) g;
-          more = l;
-        }
-
-    readied : Related T W S F n C s → Readied
-    readied (inl f) = edge-readied (fresh-edge T W S F h n C s f) (ap (λ (u : State). u .remaining) (f .is-fresh))
-    readied (inr (k, g)) = go (ℕ-discrete (s .remaining) 0)
-      where
-        go : Dec (s .remaining ≡ 0) → Readied
-        go (yes z) = edge-readied (going-edge T W S F h k n C s g z) z
-        go (no z) = going-readied k g (omega arith)
-
     -- the tick is accepted, and the relation holds after it
     pub related-tick : Related T W S F n C s
         → (advanceAnswer (byCompiled T S X s) .number ≡ 0)
@@ -118,8 +39,8 @@ module _ (T : Tables) (W S : List ℤ) (F : Function) (n : ℕ) (C : Configurati
       subst (λ (a : Advanced). Related T W S F (suc n) (pass P F n (X .readings) C) (a .state)) (sym answered) (inr (b .unit, next .2)),
     )
       where
-        b : Readied
-        b = readied r
+        b : Readied T W S F n C s (X .readings) (X .times)
+        b = readied T W S F n C s (X .readings) (X .times) h (x .times) r
 
         next : (v : State) × (tickAll P S (X .results) (b .state) ≡ ok v) × Going T W S F (b .unit) (suc n) (pass P F n (X .readings) C) v
         next = tick-related T W S F h (b .unit) n (pass P F n (X .readings) C) (b .state) (X .results) (b .keeps) (b .more) (λ t p. x .results (b .state) t p (b .runs))

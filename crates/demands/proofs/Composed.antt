@@ -33,7 +33,7 @@ module _ (Y : System) (a : Accepted Y) (F : Function) (lents : ℕ → Lent) whe
   sound : Sound (Y .tables) (Y .windows) (joined Y)
   sound = accepted-sound Y a
 
-  is-compiled : code Y ≡ emit (listingOf (Y .tables))
+  pub is-compiled : code Y ≡ emit (listingOf (Y .tables))
   is-compiled = words-are (compiling Y) (a .compiled)
 
   -- a fair tick is accepted and keeps the relation

@@ -10,3 +10,6 @@ pub mod Composed
 pub mod Supplied
 pub mod Ticks
 pub mod Giotto
+pub mod Kept
+pub mod Idle
+pub mod Given

@@ -19,7 +19,6 @@ use Rattle.cells.specs.Limits.{maxPart}
 use Rattle.program.specs.Tables.{tables, modeCount, taskSupplier, taskWorst}
 use Rattle.program.specs.Units.{rowMisses, isMultiple, units}
 use Rattle.program.specs.Program.{programOf}
-use Rattle.program.proofs.Decoded.{mode-count}
 use Rattle.rules.specs.Shape.{badSlice}
 use Rattle.runs.specs.Windows.{windowCount, winSupplier, winMode, winFrom, winTo, inWindow, InWindow}
 use Rattle.runs.specs.Schedule.{scheduleWidth}
@@ -34,17 +33,11 @@ use Rattle.suppliers.specs.Supplier.{Asked, supplierOf, courseOf, answerOf, ans
 use Rattle.suppliers.specs.declared.Answer.{Answer}
 use Rattle.suppliers.proofs.Modes.{AllGood, BreaksFirst, answer-good, answer-break}
 use Rattle.suppliers.proofs.Accepted.{part-some-time, part-after}
+use Rattle.suppliers.proofs.Judged.{verdict-judged}
 use Rattle.suppliers.proofs.Tasks.{withTasks, part-tasks, break-tasks}
 use Rattle.demands.specs.Supplier.{SupplierExact, BreaksAt, SupplierPlace, shorter, longer, Domination, Window, ownWindows, Independent}
 
 module _ (L : Asked) (a : partVerdict L ≡ 0) where
-  -- not refused by 1 to 13: the verdict is what the judge of each mode gives
-  verdict-judged : supplierVerdict L ≡ answerFrom (λ m. worstBreak (courseOf L m) nothing) (modeCount (L .tables)) 0
-  unfolding supplierVerdict
-  verdict-judged =
-      ap (λ n. elim n as (λ n. Answer) [ zero ↦ judged L | suc n ↦ record { number = suc n; mode = 0; tick = 0 } ]) a
-      ∙ ap (λ n. answerFrom (λ m. worstBreak (courseOf L m) nothing) n 0) (mode-count (L .tables))
-
   -- no run breaks exactly where every fair run of every mode is good
   all-good : AllGood (λ m. worstBreak (courseOf L m) nothing) (modeCount (L .tables)) 0
       ↔ ((m : ℕ) → m < modeCount (L .tables) → (c : Choice) → WithinWorst (courseOf L m) c → Good (courseOf L m) c nothing)

@@ -9,3 +9,6 @@ pub mod Relation
 pub mod Supplied
 pub mod Ticks
 pub mod Giotto
+pub mod Kept
+pub mod Idle
+pub mod Given

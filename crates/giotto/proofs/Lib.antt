@@ -1,5 +1,5 @@
 -- The executable instant is 001's successor configuration, a configuration has one successor, and the execution goes by successors. The
--- tasks of a mode, and what an instant leaves as it was.
+-- tasks of a mode, and what an instant leaves as it was; the active tasks are of the mode.
 pub mod Steps
 pub mod Drives
 pub mod Outputs
@@ -14,3 +14,4 @@ pub mod Once
 pub mod Execution
 pub mod Due
 pub mod Stays
+pub mod ModeTasks

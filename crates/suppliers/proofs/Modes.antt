@@ -84,17 +84,21 @@ module _ (breaks : ℕ → Break) where
       go (outside t) e i = here n m (outside t) e (λ q. absurd (let z : _≡_ {A = ℕ} 0 1 = cc in omega arith))
       go (late t) e i = here n m (late t) e (λ q. absurd (let z : _≡_ {A = ℕ} 0 1 = cc in omega arith))
 
+  -- where no run breaks, the answer is 0, without a place
+  pub answer-none : (n m : ℕ) → AllGood breaks n m → answerFrom breaks n m ≡ answerOf 0 none
+  answer-none n m g = go (answerFrom breaks n m) (answered n m)
+    where
+      go : (a : Answer) → Answered breaks n m a → a ≡ answerOf 0 none
+      go a (inl (h, q)) = q
+      go a (inr (i, b, w, q)) = absurd (w .is-break (sym (w .break) ∙ g i (w .from) (w .below)))
+
   -- the answer's number is 0 exactly where no run breaks
   pub answer-good : (n m : ℕ) → (answerFrom breaks n m .number ≡ 0) ↔ AllGood breaks n m
-  answer-good n m = (λ e. there (answerFrom breaks n m) (answered n m) e, λ g. back (answerFrom breaks n m) g (answered n m))
+  answer-good n m = (λ e. there (answerFrom breaks n m) (answered n m) e, λ g. ap (λ (a : Answer). a .number) (answer-none n m g))
     where
       there : (a : Answer) → Answered breaks n m a → a .number ≡ 0 → AllGood breaks n m
       there a (inl (g, q)) e = g
       there a (inr (i, b, w, q)) e = absurd (some-number i b (w .is-break) (sym (ap (λ (a : Answer). a .number) q) ∙ e))
-
-      back : (a : Answer) → AllGood breaks n m → Answered breaks n m a → a .number ≡ 0
-      back a g (inl (h, q)) = ap (λ (a : Answer). a .number) q
-      back a g (inr (i, b, w, q)) = absurd (w .is-break (sym (w .break) ∙ g i (w .from) (w .below)))
 
   -- the answer is that of mode i and its break b exactly where i is the first mode whose run breaks, and b its break
   pub answer-break : (n m i : ℕ) (b : Break) → (b ≡ none → ⊥) → (answerFrom breaks n m ≡ answerOf i b) ↔ BreaksFirst breaks n m i b

@@ -1,0 +1,130 @@
+-- The composed run by Giotto's execution alone: what is lent as `Given` asks is fair at every tick, and the results computed from the
+-- execution are what it asks for. Assumes nothing: the premises are the statements'.
+use Prim.Native.Nat.{ℕ, zero, suc, _<_}
+use mathlib.Core.Path.{_≡_, refl, sym, ap, subst, _∙_}
+use mathlib.Core.Bool.{Bool, true}
+use mathlib.Core.List.{List}
+use mathlib.Core.Logic.{_↔_}
+use native.Mathlib.Decide.{decLt}
+use native.Mathlib.Omega.{arith}
+use lib.IntN.{ℤ, pos}
+use lib.ListN.{replicate}
+use Rattle.theory.specs.Lists.{those, gather, member, Put}
+use Rattle.theory.proofs.Bools.{is-true}
+use Rattle.theory.proofs.Members.{has-then, has-as, has-those, has-gather, member-says}
+use Rattle.theory.proofs.Puts.{Wrote, puts-length, puts-at}
+use Rattle.cells.specs.Limits.{maxPorts, maxTasks}
+use Rattle.program.specs.Tables.{Tables}
+use Rattle.program.specs.Program.{Program, programOf, task}
+use Rattle.program.specs.Ports.{valueOf, takes}
+use Rattle.program.proofs.Decoded.{output-declared}
+use Rattle.program.proofs.Ports.{wrote-takes}
+use Rattle.rules.specs.Verdict.{programVerdict}
+use Rattle.rules.proofs.Shape.{ports-few, tasks-few}
+use Rattle.rules.proofs.Accepted.{accepted-shaped}
+use Rattle.giotto.specs.Instant.{Configuration, Function, results}
+use Rattle.giotto.specs.Execution.{execution}
+use Rattle.giotto.proofs.ModeTasks.{active-declared, active-one}
+use Rattle.machine.specs.Advance.{Lent}
+use Rattle.composed.specs.Suited.{Suited}
+use Rattle.composed.proofs.Given.{given-suits}
+use Rattle.demands.specs.Composed.{System, Accepted, joined, stateAt, configurationAt, Fair}
+use Rattle.demands.specs.Given.{Given, GivenRight, resultsOf, lentBy, GivenMet, ExecutionRight}
+use Rattle.demands.proofs.Sound.{accepted-sound}
+use Rattle.demands.proofs.Composed.{is-compiled, related-always, composed-run}
+
+module _ (Y : System) (a : Accepted Y) (F : Function) (lents : ℕ → Lent) where
+  -- a tick that is lent what is asked for is fair, where those before it are
+  given-fair : (n : ℕ) → ((k : ℕ) → k < n → Fair Y F lents k) → Given (programOf (Y .tables)) F lents n → Fair Y F lents n
+  given-fair n f g =
+      subst (λ (ws : List ℕ). Suited (Y .tables) ws (joined Y) F n (configurationAt Y F lents n) (stateAt Y lents n) (lents n))
+      (sym (is-compiled Y a F lents))
+      (given-suits (Y .tables) (Y .windows) (joined Y) F n (configurationAt Y F lents n) (stateAt Y lents n) (lents n)
+      (accepted-sound Y a) (related-always Y a F lents n f) (g .readings-length) (g .results-length) (g .times-length) (g .times) (g .results))
+
+  -- so all ticks below n are
+  all-fair : (n : ℕ) → ((k : ℕ) → k < n → Given (programOf (Y .tables)) F lents k) → (k : ℕ) → k < n → Fair Y F lents k
+  all-fair zero g = λ k l. absurd (omega arith)
+  all-fair (suc n) g = λ k l. go k l (decLt k n) (all-fair n (λ j b. g j (omega arith)))
+    where
+      go : (k : ℕ) → k < suc n → Dec (k < n) → ((j : ℕ) → j < n → Fair Y F lents j) → Fair Y F lents k
+      go k l (yes b) f = f k b
+      go k l (no b) f =
+          let e : n ≡ k = omega arith in subst (Fair Y F lents) e (given-fair n f (g n (omega arith)))
+
+-- every tick is right
+pub given-right : GivenRight
+given-right Y a F lents n g =
+    composed-run Y a .1 F lents n (λ k l. all-fair Y a F lents (suc n) (λ j b. g j (omega arith)) k (omega arith))
+
+-- ports that take values: p gets x exactly where it is one of them, and x its value
+takes-exactly : (value : ℕ → ℤ) (ps : List ℕ) (p : ℕ) (x : ℤ) → Wrote (takes value ps) p x ↔ ((member p ps ≡ true) × (x ≡ value p))
+takes-exactly value ps p x = (
+  λ w.
+      let h = wrote-takes value ps p x .0 w in
+      (is-true (member-says p ps) (has-as _ _ ps (λ q e. sym (e .0)) h), has-then _ ps (λ q e. e .1 ∙ ap value (e .0)) h),
+  λ (m, e). wrote-takes value ps p x .1 (has-as _ _ ps (λ q d. (sym d, e ∙ ap value d)) (member-says p ps .yes m)),
+)
+
+-- and where the tasks that pass give values for their outputs, exactly where one of them has p as an output, and gives x for it
+gives-exactly : (pass : ℕ → Bool) (value : ℕ → ℕ → ℤ) (outputs : ℕ → List ℕ) (n p : ℕ) (x : ℤ)
+    → Wrote (gather (λ t. takes (value t) (outputs t)) (those pass (λ t. t) n 0)) p x
+    ↔ ((t : ℕ) × (t < n) × (pass t ≡ true) × (member p (outputs t) ≡ true) × (x ≡ value t p))
+gives-exactly pass value outputs n p x =
+    let parts = has-gather (λ (b : Put). (b .place ≡ p) × (x ≡ b .value)) (λ t. takes (value t) (outputs t)) (those pass (λ t. t) n 0) in
+    let rows = has-those (λ t. Wrote (takes (value t) (outputs t)) p x) pass (λ t. t) n in (
+      λ w.
+          let (t, l, e, h) = rows .0 (parts .0 w) in
+          let (m, q) = takes-exactly (value t) (outputs t) p x .0 h in (t, l, e, m, q),
+      λ (t, l, e, m, q). parts .1 (rows .1 (t, l, e, takes-exactly (value t) (outputs t) p x .1 (m, q))),
+    )
+
+-- the results are these assignments, made to ports that all have 0
+abbrev putsOf : Program → Function → Configuration → List Put
+putsOf P F C = gather (λ t. takes (results P F (C .ports) t) (task P t .outputs)) (those (C .active) (λ t. t) maxTasks 0)
+
+-- so for an output of an active task the results have what the task gives: active tasks share no output
+given-at : (T : Tables) → programVerdict T ≡ 0 → (F : Function) (readings : ℕ → List ℤ) (n t p : ℕ)
+    → let C = execution (programOf T) F readings (suc n) in
+    C .active t ≡ true → member p (task (programOf T) t .outputs) ≡ true
+    → valueOf (resultsOf (programOf T) F C) p ≡ results (programOf T) F (C .ports) t p
+given-at T a F readings n t p e m =
+    puts-at (pos 0) (putsOf P F C) (replicate maxPorts (pos 0)) p (value t p)
+    (omega (arith, ports-few T (accepted-shaped T a), output-declared T t p m .0))
+    (gives p (value t p) .1 (t, few, e, m, refl))
+    (λ y w. one y (gives p y .0 w))
+  where
+    P : Program
+    P = programOf T
+
+    C : Configuration
+    C = execution P F readings (suc n)
+
+    value : ℕ → ℕ → ℤ
+    value = results P F (C .ports)
+
+    few : t < maxTasks
+    few = omega (arith, active-declared T a F readings (suc n) t e, tasks-few T (accepted-shaped T a))
+
+    gives : (p : ℕ) (x : ℤ) → Wrote (putsOf P F C) p x
+        ↔ ((t : ℕ) × (t < maxTasks) × (C .active t ≡ true) × (member p (task P t .outputs) ≡ true) × (x ≡ value t p))
+    gives p x = gives-exactly (C .active) value (λ t. task P t .outputs) maxTasks p x
+
+    one : (y : ℤ) → (u : ℕ) × (u < maxTasks) × (C .active u ≡ true) × (member p (task P u .outputs) ≡ true) × (y ≡ value u p) → y ≡ value t p
+    one y (u, l, d, o, q) = q ∙ ap (λ (u : ℕ). value u p) (active-one T a F readings (suc n) u t p d e o m)
+
+-- the results computed from the execution are those asked for
+pub given-met : GivenMet
+given-met T a F readings times f n = record {
+  readings-length = f .readings-length n;
+  results-length = puts-length (putsOf (programOf T) F (execution (programOf T) F readings (suc n))) (replicate maxPorts (pos 0));
+  times-length = f .times-length n;
+  times = f .in-range n;
+  results = given-at T a F readings n;
+}
+
+-- so every accepted system runs as Giotto's execution
+pub execution-right : ExecutionRight
+execution-right Y a F readings times f n =
+    given-right Y a F (lentBy (programOf (Y .tables)) F readings times) n
+    (λ k l. given-met (Y .tables) (accepted-sound Y a .accepted) F readings times f k)
