@@ -1,6 +1,7 @@
 -- The demands, proved.
 pub mod Calls
 pub mod Machine
+pub mod Uses
 pub mod Overrun
 pub mod Verdict
 pub mod Supplier

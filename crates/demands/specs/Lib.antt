@@ -1,6 +1,7 @@
 -- The demands, as statements about the definitions. An assessor starts here.
 pub mod Calls
 pub mod Machine
+pub mod Uses
 pub mod Verdict
 pub mod Supplier
 pub mod Compiled

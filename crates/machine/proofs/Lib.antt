@@ -12,6 +12,7 @@ pub mod Stopped
 pub mod Completing
 pub mod Kept
 pub mod Moved
+pub mod Uses
 pub mod Rowwise
 pub mod Assigned
 pub mod Declared

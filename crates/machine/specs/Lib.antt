@@ -7,3 +7,4 @@ pub mod Schedules
 pub mod Advance
 pub mod Stops
 pub mod Moves
+pub mod Uses
