@@ -1,13 +1,14 @@
--- The instructions of a code by number: how many there are, and which three words say each.
+-- The instructions of a code by number: how many there are, which three words say each, and which words say none.
 -- Assumes nothing.
 use Prim.Native.Nat.{ℕ, zero, suc, _+_, _*_, _/_, _<_}
 use mathlib.Core.Path.{_≡_, refl, sym, _∙_}
 use mathlib.Core.List.{List, [], _∷_}
 use native.Mathlib.Omega.{arith}
 use lib.ListN.{length, getD}
+use borrow.Author.Tests.{ne-eqb}
 use Rattle.cells.specs.Cell.{wordAt}
 use Rattle.cells.specs.Limits.{wordsEach}
-use Rattle.code.specs.Op.{Op, faulty, decode, instructions}
+use Rattle.code.specs.Op.{Op, faulty, callNumber, scheduleNumber, ifNumber, jumpNumber, futureNumber, returnNumber, decode, instructions}
 
 -- as many as there are whole threes of words
 pub instructions-length : (code : List ℕ) → length (instructions code) ≡ length code / wordsEach
@@ -39,3 +40,11 @@ pub instruction-read : (code : List ℕ) (i n a b : ℕ) → i < length code / w
     → n ≡ wordAt code (i * wordsEach) → a ≡ wordAt code (i * wordsEach + 1) → b ≡ wordAt code (i * wordsEach + 2)
     → decode n a b ≡ getD (instructions code) i faulty
 instruction-read code i n a b h e f g = (λ j. decode (e j) (f j) (g j)) ∙ sym (instruction-at code i h)
+
+-- what none of the six numbers begins says no instruction
+pub decode-unknown : (n a b : ℕ) → (n ≡ callNumber → ⊥) → (n ≡ scheduleNumber → ⊥) → (n ≡ ifNumber → ⊥) → (n ≡ jumpNumber → ⊥)
+    → (n ≡ futureNumber → ⊥) → (n ≡ returnNumber → ⊥) → decode n a b ≡ faulty
+decode-unknown n a b c s i j f r =
+    rw (ne-eqb n callNumber c, decode)
+    (rw (ne-eqb n scheduleNumber s)
+    (rw (ne-eqb n ifNumber i) (rw (ne-eqb n jumpNumber j) (rw (ne-eqb n futureNumber f) (rw (ne-eqb n returnNumber r) refl)))))

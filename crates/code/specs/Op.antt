@@ -1,7 +1,9 @@
 -- E code: an instruction is three words, unused words 0. What the words of a code say.
 -- Assumes nothing.
 use Prim.Native.Nat.{ℕ, zero, suc, _+_}
+use mathlib.Core.Bool.{true, false}
 use mathlib.Core.List.{List, [], _∷_, _++_}
+use lib.Dec.{eqb}
 
 -- `call n`, `schedule task`, `if driver address`, `jump address`, `future delay address`, `return`;
 -- faulty is what no instruction's words say
@@ -14,14 +16,36 @@ pub data Op : Type 0 where
   return : Op
   faulty : Op
 
+-- the numbers of the six, which are the constants in src/numbers.rt; and one that no instruction has
+abbrev pub callNumber : ℕ
+callNumber = 0
+
+abbrev pub scheduleNumber : ℕ
+scheduleNumber = 1
+
+abbrev pub ifNumber : ℕ
+ifNumber = 2
+
+abbrev pub jumpNumber : ℕ
+jumpNumber = 3
+
+abbrev pub futureNumber : ℕ
+futureNumber = 4
+
+abbrev pub returnNumber : ℕ
+returnNumber = 5
+
+abbrev pub noNumber : ℕ
+noNumber = 6
+
 abbrev pub words : Op → List ℕ
-words (call n) = 0 ∷ n ∷ 0 ∷ []
-words (schedule t) = 1 ∷ t ∷ 0 ∷ []
-words (branch d a) = 2 ∷ d ∷ a ∷ []
-words (jump a) = 3 ∷ a ∷ 0 ∷ []
-words (future d a) = 4 ∷ d ∷ a ∷ []
-words return = 5 ∷ 0 ∷ 0 ∷ []
-words faulty = 6 ∷ 0 ∷ 0 ∷ []
+words (call n) = callNumber ∷ n ∷ 0 ∷ []
+words (schedule t) = scheduleNumber ∷ t ∷ 0 ∷ []
+words (branch d a) = ifNumber ∷ d ∷ a ∷ []
+words (jump a) = jumpNumber ∷ a ∷ 0 ∷ []
+words (future d a) = futureNumber ∷ d ∷ a ∷ []
+words return = returnNumber ∷ 0 ∷ 0 ∷ []
+words faulty = noNumber ∷ 0 ∷ 0 ∷ []
 
 -- the words of a listing
 abbrev pub emit : List Op → List ℕ
@@ -33,15 +57,25 @@ abbrev pub unused : ℕ → Op → Op
 unused zero o = o
 unused (suc n) o = faulty
 
--- what three words say
+-- what three words say, by the first of them
 abbrev pub decode : ℕ → ℕ → ℕ → Op
-decode zero a b = unused b (call a)
-decode (suc zero) a b = unused b (schedule a)
-decode (suc (suc zero)) a b = branch a b
-decode (suc (suc (suc zero))) a b = unused b (jump a)
-decode (suc (suc (suc (suc zero)))) a b = future a b
-decode (suc (suc (suc (suc (suc zero))))) a b = unused (a + b) return
-decode (suc (suc (suc (suc (suc (suc n)))))) a b = faulty
+decode n a b =
+    elim (eqb n callNumber) [
+      | true ↦ unused b (call a)
+      | false ↦ elim (eqb n scheduleNumber) [
+        | true ↦ unused b (schedule a)
+        | false ↦ elim (eqb n ifNumber) [
+          | true ↦ branch a b
+          | false ↦ elim (eqb n jumpNumber) [
+            | true ↦ unused b (jump a)
+            | false ↦ elim (eqb n futureNumber) [
+              | true ↦ future a b
+              | false ↦ elim (eqb n returnNumber) [ true ↦ unused (a + b) return | false ↦ faulty ]
+            ]
+          ]
+        ]
+      ]
+    ]
 
 -- the instructions of a code, in order
 abbrev pub instructions : List ℕ → List Op

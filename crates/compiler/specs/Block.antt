@@ -11,7 +11,7 @@ use Rattle.cells.specs.Cell.{rowsIn, greatestWord}
 use Rattle.cells.specs.Limits.{maxPorts, maxSwitches, firstOutputCall}
 use Rattle.program.specs.Tables.{portWidth, invocationWidth, invocationTask, invocationDriver, updateWidth, updateDriver}
 use Rattle.program.specs.Sets.{sensorRows}
-use Rattle.code.specs.Op.{future, return}
+use Rattle.code.specs.Op.{future, return, callNumber, scheduleNumber}
 use Rattle.code.specs.Listing.{testsOf}
 use Rattle.layout.specs.declared.counts.Counts.{Counts}
 use Rattle.layout.specs.Counts.{countsIn, beforeFuture, sizeOf}
@@ -38,13 +38,6 @@ lent ports invocations updates switches = record { ports = ports; invocations = 
 pub record Within (L : Lent) : Type 0 where
   pub ports : rowsIn portWidth (L .ports) ≤ maxPorts
   pub rows : Few (L .invocations) (L .updates) (L .switches)
-
--- the numbers of `call` and `schedule`
-abbrev pub callNumber : ℕ
-callNumber = 0
-
-abbrev pub scheduleNumber : ℕ
-scheduleNumber = 1
 
 -- the output copy of a task, a due update, a task driver, a schedule
 abbrev pub outputForm : Form

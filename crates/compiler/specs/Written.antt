@@ -4,7 +4,7 @@ use Prim.Native.Nat.{ℕ, _+_, _*_}
 use mathlib.Core.List.{List, [], _∷_}
 use lib.Seq.{sets}
 use Rattle.cells.specs.Limits.{wordsEach}
-use Rattle.code.specs.Op.{Op, call, schedule, branch, jump, future, return, faulty}
+use Rattle.code.specs.Op.{Op, call, schedule, branch, jump, future, return, faulty, callNumber, scheduleNumber, ifNumber, jumpNumber, futureNumber, returnNumber, noNumber}
 
 -- the three words of an instruction
 pub record Words : Type 0 where
@@ -17,13 +17,13 @@ abbrev pub instruction : ℕ → ℕ → ℕ → Words
 instruction number first second = record { number = number; first = first; second = second }
 
 abbrev pub three : Op → Words
-three (call n) = instruction 0 n 0
-three (schedule t) = instruction 1 t 0
-three (branch d a) = instruction 2 d a
-three (jump a) = instruction 3 a 0
-three (future d a) = instruction 4 d a
-three return = instruction 5 0 0
-three faulty = instruction 6 0 0
+three (call n) = instruction callNumber n 0
+three (schedule t) = instruction scheduleNumber t 0
+three (branch d a) = instruction ifNumber d a
+three (jump a) = instruction jumpNumber a 0
+three (future d a) = instruction futureNumber d a
+three return = instruction returnNumber 0 0
+three faulty = instruction noNumber 0 0
 
 -- the slice as it is written so far, and the address of the next instruction
 pub record Written : Type 0 where

@@ -7,14 +7,14 @@ use cells::kinds::Mode;
 use cells::table;
 use code::Compiled;
 
-pub mod accepted;
-pub mod blocks;
-pub mod listing;
-pub mod rounds;
-pub mod rows;
-pub mod sensors;
-pub mod switches;
-pub mod words;
+mod accepted;
+mod blocks;
+mod listing;
+mod rounds;
+mod rows;
+mod sensors;
+mod switches;
+mod words;
 
 // Any slices at all may be lent. A refusal leaves the slice as it was; a listing leaves the rest of it as it was.
 pub fn compile(

@@ -8,7 +8,7 @@ use cells::table;
 use program::members;
 
 // A row before row c has its driver and destination.
-pub fn copy_clash(copies: &[i32], c: usize) -> bool
+fn copy_clash(copies: &[i32], c: usize) -> bool
     ensures { λ r. ⌜ ((T : Tables) → T .copies ≡ now (copies .entry) → r ≡ copyClash T c) ⌝ }
 {
     let d = table::driver(copies, copy::WIDTH, c, copy::DRIVER);

@@ -9,7 +9,7 @@ use cells::table;
 use program::members;
 
 // Row k breaks the rule, against the rows before it.
-pub fn mode_port_clash(ports: &[i32], mode_ports: &[i32], k: usize) -> bool
+fn mode_port_clash(ports: &[i32], mode_ports: &[i32], k: usize) -> bool
     ensures { λ r. ⌜ ((T : Tables) → T .ports ≡ now (ports .entry) → T .modePorts ≡ now («mode_ports» .entry) → r ≡ modePortClash T k) ⌝ }
 {
     let m = table::mode(mode_ports, mode_port::WIDTH, k, mode_port::MODE);

@@ -10,7 +10,7 @@ use cells::table;
 use program::members;
 
 // Row k names port p.
-pub fn same_port(task_ports: &[i32], p: Port, k: usize) -> bool
+fn same_port(task_ports: &[i32], p: Port, k: usize) -> bool
     ensures { λ r. ⌜ ((T : Tables) → T .taskPorts ≡ now («task_ports» .entry) → r ≡ samePort T (p .0) k) ⌝ }
 {
     let q = table::port(task_ports, task_port::WIDTH, k, task_port::PORT);
@@ -18,7 +18,7 @@ pub fn same_port(task_ports: &[i32], p: Port, k: usize) -> bool
 }
 
 // One of the first n rows does.
-pub fn has_same_port(task_ports: &[i32], p: Port, n: usize) -> bool
+fn has_same_port(task_ports: &[i32], p: Port, n: usize) -> bool
     ensures { λ r. ⌜ ((T : Tables) → T .taskPorts ≡ now («task_ports» .entry) → r ≡ any (samePort T (p .0)) n) ⌝ }
 {
     let mut k = 0;
@@ -32,7 +32,7 @@ pub fn has_same_port(task_ports: &[i32], p: Port, n: usize) -> bool
 }
 
 // Row k breaks the rule, against the rows before it.
-pub fn task_port_clash(ports: &[i32], task_ports: &[i32], k: usize) -> bool
+fn task_port_clash(ports: &[i32], task_ports: &[i32], k: usize) -> bool
     ensures { λ r. ⌜ ((T : Tables) → T .ports ≡ now (ports .entry) → T .taskPorts ≡ now («task_ports» .entry) → r ≡ taskPortClash T k) ⌝ }
 {
     let t = table::task(task_ports, task_port::WIDTH, k, task_port::TASK);

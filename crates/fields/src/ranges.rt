@@ -20,7 +20,7 @@ use cells::reading::same;
 use cells::table;
 
 // From 1 to the limit.
-pub fn in_range(n: usize, limit: usize) -> bool
+fn in_range(n: usize, limit: usize) -> bool
     ensures { λ r. ⌜ r ≡ inRange n limit ⌝ }
 {
     (1 <= n) & (n <= limit)
@@ -52,7 +52,7 @@ pub fn task_port_bad(ports: &[i32], tasks: &[i32], task_ports: &[i32], row: usiz
 }
 
 // A guard that always holds has 0 in its other three fields.
-pub fn always_fits(drivers: &[i32], row: usize) -> bool
+fn always_fits(drivers: &[i32], row: usize) -> bool
     ensures { λ r. ⌜ ((T : Tables) → T .drivers ≡ now (drivers .entry) → r ≡ alwaysFits T row) ⌝ }
 {
     let kind = table::field(drivers, driver::WIDTH, row, driver::KIND);
@@ -63,7 +63,7 @@ pub fn always_fits(drivers: &[i32], row: usize) -> bool
 }
 
 // A guard by an interval has a port and low ≤ high, and low is no reading only where high is.
-pub fn interval_fits(ports: &[i32], drivers: &[i32], row: usize) -> bool
+fn interval_fits(ports: &[i32], drivers: &[i32], row: usize) -> bool
     ensures { λ r. ⌜ ((T : Tables) → T .ports ≡ now (ports .entry) → T .drivers ≡ now (drivers .entry) → r ≡ intervalFits T row) ⌝ }
 {
     let kind = table::field(drivers, driver::WIDTH, row, driver::KIND);

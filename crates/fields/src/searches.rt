@@ -162,7 +162,7 @@ pub fn first_bad_switch(drivers: &[i32], modes: &[i32], switches: &[i32]) -> usi
 }
 
 // Ports, tasks, task ports, drivers, copies.
-pub fn declarations_bad(
+fn declarations_bad(
     ports: &[i32],
     tasks: &[i32],
     task_ports: &[i32],

@@ -20,7 +20,7 @@ use Rattle.program.specs.Ports.{valueOf}
 use Rattle.program.proofs.Decoded.{task-row, driver-row}
 use Rattle.rules.specs.Fields.{inRange}
 use Rattle.runs.specs.Tick.{leftOf}
-use Rattle.code.specs.Op.{call, schedule, branch, jump, decode}
+use Rattle.code.specs.Op.{call, schedule, branch, jump, decode, callNumber, scheduleNumber, ifNumber, jumpNumber}
 use Rattle.machine.specs.declared.Advanced.{Advanced}
 use Rattle.machine.specs.declared.At.{At}
 use Rattle.machine.specs.Change.{withLeft}
@@ -33,7 +33,7 @@ use Rattle.instants.proofs.Steps.{refusedWith, moved, step-faulty, step
 
 module _ (P : Program) (readings times : List ℤ) (n : ℕ) (a : At) (c u : ℕ) where
   -- `call`: its unused word is not 0
-  pub call-faulty : 0 < u → refusedWith a 19 ≡ stepped P readings times n (decode 0 c u) a
+  pub call-faulty : 0 < u → refusedWith a 19 ≡ stepped P readings times n (decode callNumber c u) a
   call-faulty l = unused-faulty P readings times n a u (call c) (ap (λ (b : Bool). b || isFaulty P n (a .planned) (call c)) (lt-ltb 0 u l))
 
   -- what the machine comes to by what the call answers: refused with its number, or moved on with its state
@@ -41,7 +41,7 @@ module _ (P : Program) (readings times : List ℤ) (n : ℕ) (a : At) (c u : ℕ
   after r = elim (r .number) [ zero ↦ moved a (a .planned) (r .state) | suc m ↦ refusedWith a (suc m) ]
 
   -- it is what the step comes to
-  answer-after : u ≤ 0 → after (callAnswer P readings times (a .state) (callOf c)) ≡ stepped P readings times n (decode 0 c u) a
+  answer-after : u ≤ 0 → after (callAnswer P readings times (a .state) (callOf c)) ≡ stepped P readings times n (decode callNumber c u) a
   answer-after l =
       ap after (sym (answered-call P readings times (a .state) (callOf c)))
       ∙ go (namesNothing P (callOf c)) (stillCalled (a .state) (callOf c))
@@ -56,7 +56,7 @@ module _ (P : Program) (readings times : List ℤ) (n : ℕ) (a : At) (c u : ℕ
 
   -- the call is refused
   pub call-refused : (r : Advanced) → u ≤ 0 → r ≡ callAnswer P readings times (a .state) (callOf c) → 0 < r .number
-      → refusedWith a (r .number) ≡ stepped P readings times n (decode 0 c u) a
+      → refusedWith a (r .number) ≡ stepped P readings times n (decode callNumber c u) a
   call-refused r l e h = some (r .number) h ∙ ap after e ∙ answer-after l
     where
       some : (m : ℕ) → 0 < m → refusedWith a m ≡ elim m [ zero ↦ moved a (a .planned) (r .state) | suc m ↦ refusedWith a (suc m) ]
@@ -65,7 +65,7 @@ module _ (P : Program) (readings times : List ℤ) (n : ℕ) (a : At) (c u : ℕ
 
   -- it is done
   pub call-moved : (r : Advanced) → u ≤ 0 → r ≡ callAnswer P readings times (a .state) (callOf c) → r .number ≤ 0
-      → moved a (a .planned) (r .state) ≡ stepped P readings times n (decode 0 c u) a
+      → moved a (a .planned) (r .state) ≡ stepped P readings times n (decode callNumber c u) a
   call-moved r l e h = none (r .number) h ∙ ap after e ∙ answer-after l
     where
       none : (m : ℕ) → m ≤ 0 → moved a (a .planned) (r .state) ≡ elim m [ zero ↦ moved a (a .planned) (r .state) | suc m ↦ refusedWith a (suc m) ]
@@ -78,7 +78,7 @@ schedule-declared rows t u h = leb-false rows t (neither (ltb 0 u) (leb rows t) 
 
 module _ (T : Tables) (readings times : List ℤ) (n : ℕ) (a : At) {tasks : List ℤ} (t u : ℕ) (e : T .tasks ≡ tasks) where
   -- `schedule`: its unused word is not 0, or its task is not declared
-  pub schedule-faulty : (ltb 0 u || leb (rowsIn taskWidth tasks) t) ≡ true → refusedWith a 19 ≡ stepped (programOf T) readings times n (decode 1 t u) a
+  pub schedule-faulty : (ltb 0 u || leb (rowsIn taskWidth tasks) t) ≡ true → refusedWith a 19 ≡ stepped (programOf T) readings times n (decode scheduleNumber t u) a
   schedule-faulty h = unused-faulty (programOf T) readings times n a u (schedule t) (ap (λ (b : Bool). ltb 0 u || b) (task-past T t e) ∙ h)
 
   module _ (few : rowsIn taskWidth tasks ≤ maxTasks) (h : (ltb 0 u || leb (rowsIn taskWidth tasks) t) ≡ false)
@@ -88,7 +88,7 @@ module _ (T : Tables) (readings times : List ℤ) (n : ℕ) (a : At) {tasks : Li
     sound = task-past T t e ∙ neither (ltb 0 u) _ h .1
 
     -- it is what the words say
-    said : stepped (programOf T) readings times n (schedule t) a ≡ stepped (programOf T) readings times n (decode 1 t u) a
+    said : stepped (programOf T) readings times n (schedule t) a ≡ stepped (programOf T) readings times n (decode scheduleNumber t u) a
     said = unused-none (programOf T) readings times n a u (schedule t) (neither (ltb 0 u) _ h .0)
 
     -- the time lent for it is in its range, or not
@@ -101,7 +101,7 @@ module _ (T : Tables) (readings times : List ℤ) (n : ℕ) (a : At) {tasks : Li
         λ i. leb 1 (lent i) && leb (lent i) (own i)
 
     -- 16: it is not
-    pub schedule-late : not (leb 1 time && leb time worst) ≡ true → refusedWith a 16 ≡ stepped (programOf T) readings times n (decode 1 t u) a
+    pub schedule-late : not (leb 1 time && leb time worst) ≡ true → refusedWith a 16 ≡ stepped (programOf T) readings times n (decode scheduleNumber t u) a
     schedule-late l = step-late (programOf T) readings times n a (schedule t) sound (ap not (sym in-range) ∙ l) ∙ said
 
     module _ (l : not (leb 1 time && leb time worst) ≡ false) (name rest : ℕ) (m : name ≡ nameOf t) (r : rest ≡ leftOf (a .state .left) name) where
@@ -110,14 +110,14 @@ module _ (T : Tables) (readings times : List ℤ) (n : ℕ) (a : At) {tasks : Li
       own-rest = r ∙ ap (leftOf (a .state .left)) (m ∙ name-small t (omega (arith, schedule-declared (rowsIn taskWidth tasks) t u h)))
 
       -- 17: the task is still running
-      pub schedule-running : 0 < rest → refusedWith a 17 ≡ stepped (programOf T) readings times n (decode 1 t u) a
+      pub schedule-running : 0 < rest → refusedWith a 17 ≡ stepped (programOf T) readings times n (decode scheduleNumber t u) a
       schedule-running q =
           step-running (programOf T) readings times n a (schedule t) sound (ap not (sym in-range) ∙ l) (le-leb 1 _ (subst (λ (k : ℕ). 1 ≤ k) own-rest q))
           ∙ said
 
       -- it is released
       pub schedule-released : (left : List ℕ) → rest ≤ 0 → left ≡ set (a .state .left) t time
-          → moved a (a .planned) (withLeft (a .state) left) ≡ stepped (programOf T) readings times n (decode 1 t u) a
+          → moved a (a .planned) (withLeft (a .state) left) ≡ stepped (programOf T) readings times n (decode scheduleNumber t u) a
       schedule-released left q v =
           ap (λ (w : List ℕ). moved a (a .planned) (withLeft (a .state) w)) (v ∙ ap (set (a .state .left) t) lent)
           ∙ step-executed (programOf T) readings times n a (schedule t) sound (ap not (sym in-range) ∙ l)
@@ -126,7 +126,7 @@ module _ (T : Tables) (readings times : List ℤ) (n : ℕ) (a : At) {tasks : Li
 
 module _ (T : Tables) (readings times : List ℤ) (n : ℕ) (a : At) {drivers : List ℤ} (d to : ℕ) (e : T .drivers ≡ drivers) where
   -- `if`: its driver is not declared, or its address is past the end
-  pub branch-faulty : (leb (rowsIn driverWidth drivers) d || leb n to) ≡ true → refusedWith a 19 ≡ stepped (programOf T) readings times n (decode 2 d to) a
+  pub branch-faulty : (leb (rowsIn driverWidth drivers) d || leb n to) ≡ true → refusedWith a 19 ≡ stepped (programOf T) readings times n (decode ifNumber d to) a
   branch-faulty h = step-faulty (programOf T) readings times n a (branch d to) (ap (λ (b : Bool). b || leb n to) (driver-past T d e) ∙ h)
 
   module _ (few : rowsIn driverWidth drivers ≤ maxDrivers) (h : (leb (rowsIn driverWidth drivers) d || leb n to) ≡ false)
@@ -147,19 +147,19 @@ module _ (T : Tables) (readings times : List ℤ) (n : ℕ) (a : At) {drivers : 
     }
 
     -- it is what the step comes to
-    goes-on : (b : Bool) → b ≡ holds (guardOf T name) (valueOf (a .state .ports)) → goesOn b ≡ stepped (programOf T) readings times n (decode 2 d to) a
+    goes-on : (b : Bool) → b ≡ holds (guardOf T name) (valueOf (a .state .ports)) → goesOn b ≡ stepped (programOf T) readings times n (decode ifNumber d to) a
     goes-on b g =
         ap goesOn (g ∙ ap (λ (g : Guard). holds g (valueOf (a .state .ports))) own-guard)
         ∙ step-executed (programOf T) readings times n a (branch d to) (ap (λ (b : Bool). b || leb n to) (driver-past T d e) ∙ h) refl refl
 
     -- it holds: as a jump
     pub branch-jumps : (r : Stepped) (b : Bool) → b ≡ holds (guardOf T name) (valueOf (a .state .ports)) → b ≡ true
-        → r ≡ stepped (programOf T) readings times n (decode 3 to 0) a → r ≡ stepped (programOf T) readings times n (decode 2 d to) a
+        → r ≡ stepped (programOf T) readings times n (decode jumpNumber to 0) a → r ≡ stepped (programOf T) readings times n (decode ifNumber d to) a
     branch-jumps r b g y j =
         j ∙ sym (step-executed (programOf T) readings times n a (jump to) (neither (leb (rowsIn driverWidth drivers) d) (leb n to) h .1) refl refl)
         ∙ goes-on true (sym y ∙ g)
 
     -- it does not hold: on to the next address
     pub branch-moves : (b : Bool) → b ≡ holds (guardOf T name) (valueOf (a .state .ports)) → b ≡ false
-        → moved a (a .planned) (a .state) ≡ stepped (programOf T) readings times n (decode 2 d to) a
+        → moved a (a .planned) (a .state) ≡ stepped (programOf T) readings times n (decode ifNumber d to) a
     branch-moves b g y = goes-on false (sym y ∙ g)

@@ -9,22 +9,12 @@ use lib.ListN.{length, List·getD-eq-default}
 use Rattle.cells.specs.Cell.{wordAt}
 use Rattle.cells.specs.Limits.{wordsEach}
 use Rattle.program.specs.Program.{Program}
-use Rattle.code.specs.Op.{Op, faulty, decode, instructions}
-use Rattle.code.proofs.Fetch.{instructions-length, instruction-read}
+use Rattle.code.specs.Op.{Op, faulty, callNumber, scheduleNumber, ifNumber, jumpNumber, futureNumber, returnNumber, decode, instructions}
+use Rattle.code.proofs.Fetch.{instructions-length, instruction-read, decode-unknown}
 use Rattle.machine.specs.declared.At.{At}
 use Rattle.instants.specs.declared.instructions.Stepped.{Stepped}
 use Rattle.instants.specs.Step.{stepped, stepAt}
 use Rattle.instants.proofs.Steps.{refusedWith, step-faulty}
-
--- what none of the six numbers begins is faulty
-unknown : (n first second : ℕ) → (n ≡ 0 → ⊥) → (n ≡ 1 → ⊥) → (n ≡ 2 → ⊥) → (n ≡ 3 → ⊥) → (n ≡ 4 → ⊥) → (n ≡ 5 → ⊥) → faulty ≡ decode n first second
-unknown zero first second a b c d e f = absurd (a refl)
-unknown (suc zero) first second a b c d e f = absurd (b refl)
-unknown (suc (suc zero)) first second a b c d e f = absurd (c refl)
-unknown (suc (suc (suc zero))) first second a b c d e f = absurd (d refl)
-unknown (suc (suc (suc (suc zero)))) first second a b c d e f = absurd (e refl)
-unknown (suc (suc (suc (suc (suc zero))))) first second a b c d e f = absurd (f refl)
-unknown (suc (suc (suc (suc (suc (suc n)))))) first second a b c d e f = refl
 
 module _ (P : Program) (readings times : List ℤ) (code : List ℕ) (a : At) where
   -- past the end
@@ -45,9 +35,9 @@ module _ (P : Program) (readings times : List ℤ) (code : List ℕ) (a : At) wh
         ∙ ap (λ (o : Op). stepped P readings times (length (instructions code)) o a) (instruction-read code (a .address) n first second l (sym e ∙ w) x y)
 
     -- it has none of the six numbers
-    pub fetched-unknown : (number ≡ 0 → ⊥) → (number ≡ 1 → ⊥) → (number ≡ 2 → ⊥) → (number ≡ 3 → ⊥) → (number ≡ 4 → ⊥) → (number ≡ 5 → ⊥)
-        → refusedWith a 19 ≡ stepAt P readings times (instructions code) a
-    fetched-unknown n₀ n₁ n₂ n₃ n₄ n₅ =
+    pub fetched-unknown : (number ≡ callNumber → ⊥) → (number ≡ scheduleNumber → ⊥) → (number ≡ ifNumber → ⊥) → (number ≡ jumpNumber → ⊥)
+        → (number ≡ futureNumber → ⊥) → (number ≡ returnNumber → ⊥) → refusedWith a 19 ≡ stepAt P readings times (instructions code) a
+    fetched-unknown c s i j f r =
         fetched (refusedWith a 19) number refl
         (step-faulty P readings times (length code / wordsEach) a faulty refl
-        ∙ ap (λ (o : Op). stepped P readings times (length code / wordsEach) o a) (unknown number first second n₀ n₁ n₂ n₃ n₄ n₅))
+        ∙ ap (λ (o : Op). stepped P readings times (length code / wordsEach) o a) (sym (decode-unknown number first second c s i j f r)))

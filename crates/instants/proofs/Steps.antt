@@ -15,7 +15,7 @@ use Rattle.theory.proofs.Bools.{clash, neither}
 use Rattle.cells.specs.Limits.{maxDelay}
 use Rattle.program.specs.Program.{Program}
 use Rattle.rules.specs.Fields.{inRange}
-use Rattle.code.specs.Op.{Op, jump, future, return, unused, decode}
+use Rattle.code.specs.Op.{Op, jump, future, return, unused, decode, jumpNumber, futureNumber, returnNumber}
 use Rattle.machine.specs.declared.State.{State}
 use Rattle.machine.specs.declared.At.{At}
 use Rattle.machine.specs.Instruction.{isFaulty, timeBad, stillRunning, planAt, executes}
@@ -92,20 +92,20 @@ module _ (P : Program) (readings times : List ℤ) (n : ℕ) (a : At) where
   unused-none (suc u) o e = clash (lt-ltb 0 (suc u) (omega arith)) e
 
   -- `jump`: its unused word is not 0, or its address is past the end
-  pub jump-refused : (to u : ℕ) → (ltb 0 u || leb n to) ≡ true → refusedWith a 19 ≡ stepped P readings times n (decode 3 to u) a
+  pub jump-refused : (to u : ℕ) → (ltb 0 u || leb n to) ≡ true → refusedWith a 19 ≡ stepped P readings times n (decode jumpNumber to u) a
   jump-refused to u e = unused-faulty u (jump to) e
 
   -- it jumps
   pub jump-executed : (to u : ℕ) → (ltb 0 u || leb n to) ≡ false
       → record { number = 0; over = false; at = record { address = to; planned = a .planned; state = a .state } }
-      ≡ stepped P readings times n (decode 3 to u) a
+      ≡ stepped P readings times n (decode jumpNumber to u) a
   jump-executed to u e =
       let (none, inside) = neither (ltb 0 u) (leb n to) e in
       step-executed (jump to) inside refl refl ∙ unused-none u (jump to) none
 
   -- `future`: one was executed before, its delay is not in range, or its address is past the end
   pub future-refused : (delay to : ℕ) → (a .planned || not (leb 1 delay && leb delay maxDelay) || leb n to) ≡ true
-      → refusedWith a 19 ≡ stepped P readings times n (decode 4 delay to) a
+      → refusedWith a 19 ≡ stepped P readings times n (decode futureNumber delay to) a
   unfolding inRange
   future-refused delay to e = step-faulty (future delay to) e
 
@@ -116,19 +116,19 @@ module _ (P : Program) (readings times : List ℤ) (n : ℕ) (a : At) where
         over = false;
         at = record { address = a .address + 1; planned = true; state = planAt P readings times (a .address) delay to (a .state) };
       }
-      ≡ stepped P readings times n (decode 4 delay to) a
+      ≡ stepped P readings times n (decode futureNumber delay to) a
   unfolding inRange
   future-executed delay to e = moved-on a true _ ∙ step-executed (future delay to) e refl refl
 
   -- `return`: a word of it is not 0, or no `future` was executed
   pub return-refused : (first second : ℕ) → (ltb 0 first || ltb 0 second || not (a .planned)) ≡ true
-      → refusedWith a 19 ≡ stepped P readings times n (decode 5 first second) a
+      → refusedWith a 19 ≡ stepped P readings times n (decode returnNumber first second) a
   return-refused first second e =
       unused-faulty (first + second) return (ap (λ (b : Bool). b || not (a .planned)) (sym (either-some first second)) ∙ e)
 
   -- the instant is over
   pub return-executed : (first second : ℕ) → (ltb 0 first || ltb 0 second || not (a .planned)) ≡ false
-      → record { number = 0; over = true; at = a } ≡ stepped P readings times n (decode 5 first second) a
+      → record { number = 0; over = true; at = a } ≡ stepped P readings times n (decode returnNumber first second) a
   return-executed first second e =
       let (none, planned) = neither (ltb 0 first || ltb 0 second) (not (a .planned)) e in
       step-executed return planned refl refl ∙ unused-none (first + second) return (sym (either-some first second) ∙ none)

@@ -8,7 +8,7 @@ ghost use Rattle.cells.specs.Cell.{rowsIn};
 ghost use Rattle.cells.specs.Limits.{maxTasks, maxDrivers};
 ghost use Rattle.program.specs.Tables.{Tables, taskWidth, driverWidth};
 ghost use Rattle.program.specs.Program.{programOf};
-ghost use Rattle.code.specs.Op.{instructions, decode};
+ghost use Rattle.code.specs.Op.{callNumber, scheduleNumber, ifNumber, jumpNumber, futureNumber, returnNumber, instructions, decode};
 ghost use Rattle.instants.specs.Step.{Named, addressEnd, stepped, stepAt};
 use crate::calls;
 use cells::columns::driver;
@@ -17,6 +17,7 @@ use cells::kinds::Driver;
 use cells::kinds::Task;
 use cells::limits::Program;
 use cells::table;
+use code::numbers;
 use machine::At;
 use machine::State;
 use program::guard;
@@ -69,7 +70,7 @@ fn call(
 ) -> Stepped
     requires { ⌜ Named (now ports) (now tasks) (now drivers) ⌝ }
     requires { ⌜ at .address < addressEnd ⌝ }
-    ensures { λ r. ⌜ ((T : Tables) → T .ports ≡ now (ports .entry) → T .tasks ≡ now (tasks .entry) → T .taskPorts ≡ now («task_ports» .entry) → T .drivers ≡ now (drivers .entry) → T .copies ≡ now (copies .entry) → (times : List ℤ) (count : ℕ) → r ≡ stepped (programOf T) (now (readings .entry)) times count (decode 0 n unused) at) ⌝ }
+    ensures { λ r. ⌜ ((T : Tables) → T .ports ≡ now (ports .entry) → T .tasks ≡ now (tasks .entry) → T .taskPorts ≡ now («task_ports» .entry) → T .drivers ≡ now (drivers .entry) → T .copies ≡ now (copies .entry) → (times : List ℤ) (count : ℕ) → r ≡ stepped (programOf T) (now (readings .entry)) times count (decode callNumber n unused) at) ⌝ }
 {
     if 0 < unused {
         return refused(19, at);
@@ -96,7 +97,7 @@ fn call(
 fn schedule(tasks: &[i32], times: &[i32], t: usize, unused: usize, at: At) -> Stepped
     requires { ⌜ rowsIn taskWidth (now tasks) ≤ maxTasks ⌝ }
     requires { ⌜ at .address < addressEnd ⌝ }
-    ensures { λ r. ⌜ ((T : Tables) → T .tasks ≡ now (tasks .entry) → (readings : List ℤ) (count : ℕ) → r ≡ stepped (programOf T) readings (now (times .entry)) count (decode 1 t unused) at) ⌝ }
+    ensures { λ r. ⌜ ((T : Tables) → T .tasks ≡ now (tasks .entry) → (readings : List ℤ) (count : ℕ) → r ≡ stepped (programOf T) readings (now (times .entry)) count (decode scheduleNumber t unused) at) ⌝ }
 {
     if (0 < unused) | (tasks.len() / task::WIDTH <= t) {
         return refused(19, at);
@@ -121,7 +122,7 @@ fn schedule(tasks: &[i32], times: &[i32], t: usize, unused: usize, at: At) -> St
 fn branch(drivers: &[i32], count: usize, d: usize, to: usize, at: At) -> Stepped
     requires { ⌜ rowsIn driverWidth (now drivers) ≤ maxDrivers ⌝ }
     requires { ⌜ at .address < addressEnd ⌝ }
-    ensures { λ r. ⌜ ((T : Tables) → T .drivers ≡ now (drivers .entry) → (readings times : List ℤ) → r ≡ stepped (programOf T) readings times count (decode 2 d to) at) ⌝ }
+    ensures { λ r. ⌜ ((T : Tables) → T .drivers ≡ now (drivers .entry) → (readings times : List ℤ) → r ≡ stepped (programOf T) readings times count (decode ifNumber d to) at) ⌝ }
 {
     if (drivers.len() / driver::WIDTH <= d) | (count <= to) {
         return refused(19, at);
@@ -136,7 +137,7 @@ fn branch(drivers: &[i32], count: usize, d: usize, to: usize, at: At) -> Stepped
 
 // `jump address`.
 fn jump(count: usize, to: usize, unused: usize, at: At) -> Stepped
-    ensures { λ r. ⌜ ((T : Tables) (readings times : List ℤ) → r ≡ stepped (programOf T) readings times count (decode 3 to unused) at) ⌝ }
+    ensures { λ r. ⌜ ((T : Tables) (readings times : List ℤ) → r ≡ stepped (programOf T) readings times count (decode jumpNumber to unused) at) ⌝ }
 {
     if (0 < unused) | (count <= to) {
         return refused(19, at);
@@ -153,7 +154,7 @@ fn jump(count: usize, to: usize, unused: usize, at: At) -> Stepped
 // `future delay address`: a block begins here, and all suppliers are at its start.
 fn future(count: usize, delay: usize, to: usize, at: At) -> Stepped
     requires { ⌜ at .address < addressEnd ⌝ }
-    ensures { λ r. ⌜ ((T : Tables) (readings times : List ℤ) → r ≡ stepped (programOf T) readings times count (decode 4 delay to) at) ⌝ }
+    ensures { λ r. ⌜ ((T : Tables) (readings times : List ℤ) → r ≡ stepped (programOf T) readings times count (decode futureNumber delay to) at) ⌝ }
 {
     let in_range = (1 <= delay) & (delay <= Program::DELAY);
     if at.planned | !in_range | (count <= to) {
@@ -178,7 +179,7 @@ fn future(count: usize, delay: usize, to: usize, at: At) -> Stepped
 
 // `return`: the instant is over, if a `future` was executed in it.
 fn finish(first: usize, second: usize, at: At) -> Stepped
-    ensures { λ r. ⌜ ((T : Tables) (readings times : List ℤ) (count : ℕ) → r ≡ stepped (programOf T) readings times count (decode 5 first second) at) ⌝ }
+    ensures { λ r. ⌜ ((T : Tables) (readings times : List ℤ) (count : ℕ) → r ≡ stepped (programOf T) readings times count (decode returnNumber first second) at) ⌝ }
 {
     if (0 < first) | (0 < second) | !at.planned {
         return refused(19, at);
@@ -214,7 +215,7 @@ pub fn step(
     let first = table::word(code, place + 1);
     let second = table::word(code, place + 2);
     match number {
-        0 => call(
+        numbers::CALL => call(
             ports,
             tasks,
             task_ports,
@@ -225,11 +226,11 @@ pub fn step(
             second,
             at,
         ),
-        1 => schedule(tasks, times, first, second, at),
-        2 => branch(drivers, count, first, second, at),
-        3 => jump(count, first, second, at),
-        4 => future(count, first, second, at),
-        5 => finish(first, second, at),
+        numbers::SCHEDULE => schedule(tasks, times, first, second, at),
+        numbers::IF => branch(drivers, count, first, second, at),
+        numbers::JUMP => jump(count, first, second, at),
+        numbers::FUTURE => future(count, first, second, at),
+        numbers::RETURN => finish(first, second, at),
         _ => refused(19, at),
     }
 }

@@ -11,8 +11,8 @@ use machine::Advanced;
 use machine::At;
 use machine::State;
 
-pub mod calls;
-pub mod instructions;
+mod calls;
+mod instructions;
 
 // All instructions were run: one more inside the code is 20, running off the end 19.
 fn spent(count: usize, address: usize, s: State) -> Advanced

@@ -1,8 +1,8 @@
 -- The layout of the modes of a program, by rule: where a mode begins is the sum of the sizes before it. One mode more is what the
 -- code makes; all modes are where the listing has them; and no number exceeds the longest code.
 -- Assumes of the tables that they have no more rows than the limits (`Few`), no more sensors and no more modes.
-use Prim.Native.Nat.{ℕ, _+_, _*_, _≤_, _<_}
-use mathlib.Core.Path.{_≡_, sym, ap, _∙_}
+use Prim.Native.Nat.{ℕ, zero, suc, _+_, _*_, _≤_, _<_}
+use mathlib.Core.Path.{_≡_, refl, sym, ap, _∙_}
 use mathlib.Core.List.{List}
 use native.Mathlib.Nat.{add-assoc}
 use native.Mathlib.Numerals.{add-one}
@@ -24,7 +24,7 @@ use Rattle.code.proofs.Length.{listing-length}
 use Rattle.layout.specs.declared.addresses.Layout.{Layout}
 use Rattle.layout.specs.Counts.{countsIn, countsOf, beforeEntry, sizeOf, mostMode, mostCode}
 use Rattle.layout.specs.Few.{Few}
-use Rattle.layout.specs.Layout.{unitCounts, sizeIn, startIn, laidMore, LaidOut, Small}
+use Rattle.layout.specs.Layout.{unitCounts, sizeIn, startIn, laidMore, laidModes, LaidOut, Small}
 use Rattle.layout.proofs.Limits.{counts-sized, mode-most}
 use Rattle.layout.proofs.Sizes.{counts-due}
 
@@ -74,6 +74,11 @@ module _ (T : Tables) (sensors : ℕ) where
   pub laid-more : (m : ℕ) → laidMore T sensors m (laid T sensors m) ≡ laid T sensors (m + 1)
   unfolding laidMore
   laid-more m = rw (add-one m) (ends (add-assoc 1 (sum (sizeIn T sensors) m) (sizeIn T sensors m)))
+
+  -- so the layout is made of its modes, one after the other
+  pub laid-modes : (n : ℕ) → laid T sensors n ≡ laidModes T sensors n
+  laid-modes zero = refl
+  laid-modes (suc m) = ap (laid T sensors) (sym (add-one m)) ∙ sym (laid-more m) ∙ ap (laidMore T sensors m) (laid-modes m)
 
   module _ (few : Few (T .invocations) (T .updates) (T .switches)) (s : sensors ≤ maxPorts) where
     -- the modes before mode m are no longer than m times the most

@@ -1,9 +1,10 @@
 -- Where the modes of a listing stand: one mode more, counted from the tables; and what a layout of all says of the listing.
 -- Assumes nothing.
-use Prim.Native.Nat.{ℕ, _+_, _≤_, _<_}
+use Prim.Native.Nat.{ℕ, zero, suc, _+_, _≤_, _<_}
 use mathlib.Core.Path.{_≡_}
-use lib.ListN.{length, getD, set}
+use lib.ListN.{length, getD, set, replicate}
 use Rattle.theory.specs.Lists.{sum}
+use Rattle.cells.specs.Limits.{maxModes}
 use Rattle.program.specs.Tables.{Tables, modeCount}
 use Rattle.program.specs.Units.{units}
 use Rattle.program.specs.Program.{programOf}
@@ -33,6 +34,11 @@ laidMore T sensors m before =
       entries = set (before .entries) m (before .length + beforeEntry (unitCounts T sensors m 0));
       length = before .length + sizeIn T sensors m;
     }
+
+-- the layout of the first n modes, behind the jump at address 0
+abbrev pub laidModes : Tables → ℕ → ℕ → Layout
+laidModes T sensors zero = record { starts = replicate maxModes 0; entries = replicate maxModes 0; length = 1 }
+laidModes T sensors (suc m) = laidMore T sensors m (laidModes T sensors m)
 
 -- the layout says where each declared mode of these tables begins, where its unit 0 is entered, and how long the listing is
 pub record LaidOut (T : Tables) (l : Layout) : Type 0 where

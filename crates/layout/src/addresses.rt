@@ -4,11 +4,11 @@ ghost use Prim.Native.Nat.{_≤_, _<_};
 ghost use lib.ListN.{length};
 ghost use Rattle.cells.specs.Cell.{rowsIn};
 ghost use Rattle.cells.specs.Limits.{maxPorts, maxModes};
-ghost use Rattle.program.specs.Tables.{Tables, modeWidth};
+ghost use Rattle.program.specs.Tables.{Tables, modeWidth, modeCount};
 ghost use Rattle.program.specs.Program.{programOf};
 ghost use Rattle.layout.specs.Counts.{mostCode};
 ghost use Rattle.layout.specs.Few.{Few};
-ghost use Rattle.layout.specs.Layout.{laidMore, LaidOut, Small};
+ghost use Rattle.layout.specs.Layout.{laidMore, laidModes, LaidOut, Small};
 use crate::counts;
 use cells::columns::mode;
 use cells::kinds::Mode;
@@ -61,6 +61,7 @@ pub fn lay_out(
     requires { ⌜ Few (now invocations) (now updates) (now switches) ⌝ }
     requires { ⌜ rowsIn modeWidth (now modes) ≤ maxModes ⌝ }
     requires { ⌜ sensors ≤ maxPorts ⌝ }
+    ensures all { λ r. ⌜ ((T : Tables) → T .modes ≡ now (modes .entry) → T .invocations ≡ now (invocations .entry) → T .updates ≡ now (updates .entry) → T .switches ≡ now (switches .entry) → r ≡ laidModes T sensors (modeCount T)) ⌝ }
     ensures laid { λ r. ⌜ ((T : Tables) → T .modes ≡ now (modes .entry) → T .invocations ≡ now (invocations .entry) → T .updates ≡ now (updates .entry) → T .switches ≡ now (switches .entry) → sensors ≡ length (programOf T .sensors) → LaidOut T r) ⌝ }
     ensures small { λ r. ⌜ Small r ⌝ }
 {

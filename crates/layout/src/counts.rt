@@ -63,7 +63,7 @@ pub fn count(
 }
 
 // From the beginning of a block to its switch tests.
-pub fn before_tests(c: Counts) -> usize
+fn before_tests(c: Counts) -> usize
     requires { ⌜ Sized c ⌝ }
     ensures { λ r. ⌜ r ≡ beforeTests c ⌝ }
 {
@@ -95,7 +95,7 @@ pub fn block_size(c: Counts) -> usize
 }
 
 // How long the block of unit k of mode m is, which has u units.
-pub fn unit_size(
+fn unit_size(
     invocations: &[i32],
     updates: &[i32],
     switches: &[i32],

@@ -1,18 +1,19 @@
 // The delay of the `future` at each address of the compiled code, as a table that is filled from the program's tables.
 ghost use mathlib.Core.Path.{_≡_};
 ghost use Prim.Native.Nat.{suc, _+_, _≤_, _<_};
-ghost use lib.ListN.{set};
+ghost use lib.ListN.{length, set};
 ghost use Rattle.theory.specs.Lists.{sum};
 ghost use Rattle.cells.specs.Cell.{rowsIn, wordAt, greatestWord};
 ghost use Rattle.cells.specs.Limits.{maxPorts, maxModes, maxUnits};
-ghost use Rattle.program.specs.Tables.{Tables, portWidth, modeWidth};
+ghost use Rattle.program.specs.Tables.{Tables, portWidth, modeWidth, modeCount};
+ghost use Rattle.program.specs.Sets.{sensorRows};
 ghost use Rattle.program.specs.Units.{units};
 ghost use Rattle.rules.specs.Verdict.{programVerdict};
 ghost use Rattle.code.specs.Compile.{listingOf};
 ghost use Rattle.layout.specs.Counts.{countsIn, beforeFuture, sizeOf, mostMode, mostCode};
 ghost use Rattle.layout.specs.Few.{Few, Sized};
 ghost use Rattle.layout.specs.Layout.{unitCounts, sizeIn};
-ghost use Rattle.layout.specs.Delays.{marked, unitsMarked, heldPeriod, ticksIn};
+ghost use Rattle.layout.specs.Delays.{marked, unitsMarked, heldPeriod, ticksIn, modesMarked};
 use crate::counts;
 use crate::counts::Counts;
 use cells::columns::mode;
@@ -108,7 +109,8 @@ fn mark_mode(
     )
 }
 
-// The delay of each `future` of the compiled code put at its address; the other places stay as they are.
+// The delay of each `future` put at its address, counted from the tables; the other places stay as they are. Of an accepted program
+// these are the delays of the compiled code.
 pub fn fill(
     ports: &[i32],
     modes: &[i32],
@@ -120,7 +122,8 @@ pub fn fill(
     requires { ⌜ Few (now invocations) (now updates) (now switches) ⌝ }
     requires { ⌜ rowsIn modeWidth (now modes) ≤ maxModes ⌝ }
     requires { ⌜ rowsIn portWidth (now ports) ≤ maxPorts ⌝ }
-    ensures { λ _. ⌜ ((T : Tables) → T .ports ≡ now (ports .entry) → T .modes ≡ now (modes .entry) → T .invocations ≡ now (invocations .entry) → T .updates ≡ now (updates .entry) → T .switches ≡ now (switches .entry) → programVerdict T ≡ 0 → now (delays .exit) ≡ marked (listingOf T) 0 (now (delays .entry))) ⌝ }
+    ensures counted { λ _. ⌜ ((T : Tables) → T .ports ≡ now (ports .entry) → T .modes ≡ now (modes .entry) → T .invocations ≡ now (invocations .entry) → T .updates ≡ now (updates .entry) → T .switches ≡ now (switches .entry) → now (delays .exit) ≡ modesMarked T (length (sensorRows (T .ports) (λ p. p))) (modeCount T) (now (delays .entry))) ⌝ }
+    ensures listed { λ _. ⌜ ((T : Tables) → T .ports ≡ now (ports .entry) → T .modes ≡ now (modes .entry) → T .invocations ≡ now (invocations .entry) → T .updates ≡ now (updates .entry) → T .switches ≡ now (switches .entry) → programVerdict T ≡ 0 → now (delays .exit) ≡ marked (listingOf T) 0 (now (delays .entry))) ⌝ }
 {
     let sensors = counts::sensors(ports);
     let n = modes.len() / mode::WIDTH;

@@ -14,7 +14,7 @@ use layout::addresses;
 use layout::counts;
 
 // Number 11: the E code exceeds the limit. It is counted, not written.
-pub fn code_long(
+fn code_long(
     ports: &[i32],
     modes: &[i32],
     invocations: &[i32],

@@ -14,7 +14,7 @@ use cells::table;
 use program::members;
 
 // Row c is a copy of driver d to a port that is no input of task t.
-pub fn destination_no_input(
+fn destination_no_input(
     ports: &[i32],
     task_ports: &[i32],
     copies: &[i32],
@@ -53,7 +53,7 @@ pub fn some_destination_no_input(
 }
 
 // Row c is a copy of driver d to a port that is no actuator.
-pub fn destination_no_actuator(ports: &[i32], copies: &[i32], d: Driver, c: usize) -> bool
+fn destination_no_actuator(ports: &[i32], copies: &[i32], d: Driver, c: usize) -> bool
     ensures { λ r. ⌜ ((T : Tables) → T .ports ≡ now (ports .entry) → T .copies ≡ now (copies .entry) → r ≡ destinationWith T (λ p. not (isKind T actuator p)) (d .0) c) ⌝ }
 {
     if own_copy(copies, d, c) {
@@ -79,7 +79,7 @@ pub fn some_destination_no_actuator(ports: &[i32], copies: &[i32], d: Driver) ->
 }
 
 // Row c is a copy of driver d to a port that driver e sets too.
-pub fn destination_shared(copies: &[i32], e: Driver, d: Driver, c: usize) -> bool
+fn destination_shared(copies: &[i32], e: Driver, d: Driver, c: usize) -> bool
     ensures { λ r. ⌜ ((T : Tables) → T .copies ≡ now (copies .entry) → r ≡ destinationWith T (isDestination T (e .0)) (d .0) c) ⌝ }
 {
     if own_copy(copies, d, c) {
@@ -105,7 +105,7 @@ pub fn some_destination_shared(copies: &[i32], e: Driver, d: Driver) -> bool
 }
 
 // Row c is a copy of driver d to a port that is none of mode m.
-pub fn destination_no_mode_port(
+fn destination_no_mode_port(
     copies: &[i32],
     mode_ports: &[i32],
     m: Mode,

@@ -11,7 +11,7 @@ use cells::table;
 use program::members;
 
 // Row k is a port of mode m that driver d does not set.
-pub fn port_no_destination(copies: &[i32], mode_ports: &[i32], d: Driver, m: Mode, k: usize) -> bool
+fn port_no_destination(copies: &[i32], mode_ports: &[i32], d: Driver, m: Mode, k: usize) -> bool
     ensures { λ r. ⌜ ((T : Tables) → T .copies ≡ now (copies .entry) → T .modePorts ≡ now («mode_ports» .entry) → r ≡ portWith T (λ p. not (isDestination T (d .0) p)) (m .0) k) ⌝ }
 {
     let owner = table::mode(mode_ports, mode_port::WIDTH, k, mode_port::MODE);

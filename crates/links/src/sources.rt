@@ -17,7 +17,7 @@ use program::guard;
 use program::members;
 
 // Port p is neither a port of mode m nor a sensor.
-pub fn unreadable(ports: &[i32], mode_ports: &[i32], m: Mode, p: Port) -> bool
+fn unreadable(ports: &[i32], mode_ports: &[i32], m: Mode, p: Port) -> bool
     ensures { λ r. ⌜ ((T : Tables) → T .ports ≡ now (ports .entry) → T .modePorts ≡ now («mode_ports» .entry) → r ≡ unreadable T (m .0) (p .0)) ⌝ }
 {
     if members::is_kind(ports, port::SENSOR, p) {
@@ -27,7 +27,7 @@ pub fn unreadable(ports: &[i32], mode_ports: &[i32], m: Mode, p: Port) -> bool
 }
 
 // Row c is a copy of driver d from a port that mode m does not let it read.
-pub fn source_unreadable(
+fn source_unreadable(
     ports: &[i32],
     copies: &[i32],
     mode_ports: &[i32],
@@ -45,7 +45,7 @@ pub fn source_unreadable(
 }
 
 // Some copy of driver d is.
-pub fn some_copy_unreadable(
+fn some_copy_unreadable(
     ports: &[i32],
     copies: &[i32],
     mode_ports: &[i32],
@@ -87,7 +87,7 @@ pub fn some_source_unreadable(
 }
 
 // Row c is a copy of driver d from a port that is none of mode m.
-pub fn source_no_mode_port(copies: &[i32], mode_ports: &[i32], m: Mode, d: Driver, c: usize) -> bool
+fn source_no_mode_port(copies: &[i32], mode_ports: &[i32], m: Mode, d: Driver, c: usize) -> bool
     ensures { λ r. ⌜ ((T : Tables) → T .copies ≡ now (copies .entry) → T .modePorts ≡ now («mode_ports» .entry) → r ≡ sourceWith T (λ p. not (isModePort T (m .0) p)) (d .0) c) ⌝ }
 {
     if own_copy(copies, d, c) {
@@ -98,7 +98,7 @@ pub fn source_no_mode_port(copies: &[i32], mode_ports: &[i32], m: Mode, d: Drive
 }
 
 // Some copy of driver d is.
-pub fn some_copy_no_mode_port(copies: &[i32], mode_ports: &[i32], m: Mode, d: Driver) -> bool
+fn some_copy_no_mode_port(copies: &[i32], mode_ports: &[i32], m: Mode, d: Driver) -> bool
     ensures { λ r. ⌜ ((T : Tables) → T .copies ≡ now (copies .entry) → T .modePorts ≡ now («mode_ports» .entry) → r ≡ any (sourceWith T (λ p. not (isModePort T (m .0) p)) (d .0)) (copyCount T)) ⌝ }
 {
     let n = copies.len() / copy::WIDTH;

@@ -13,7 +13,7 @@ use cells::table;
 use program::members;
 
 // Row k of the task ports is one of task t, of this kind.
-pub fn own_port(ports: &[i32], task_ports: &[i32], kind: usize, t: Task, k: usize) -> bool
+fn own_port(ports: &[i32], task_ports: &[i32], kind: usize, t: Task, k: usize) -> bool
     ensures { λ r. ⌜ ((T : Tables) → T .ports ≡ now (ports .entry) → T .taskPorts ≡ now («task_ports» .entry) → r ≡ ownPort T kind (t .0) k) ⌝ }
 {
     let owner = table::task(task_ports, task_port::WIDTH, k, task_port::TASK);
@@ -22,7 +22,7 @@ pub fn own_port(ports: &[i32], task_ports: &[i32], kind: usize, t: Task, k: usiz
 }
 
 // Row k is an output of task t that is no port of mode m.
-pub fn output_no_mode_port(
+fn output_no_mode_port(
     ports: &[i32],
     task_ports: &[i32],
     mode_ports: &[i32],
@@ -61,7 +61,7 @@ pub fn some_output_no_mode_port(
 }
 
 // Row k is an output of task t, and one of task u.
-pub fn output_shared(ports: &[i32], task_ports: &[i32], u: Task, t: Task, k: usize) -> bool
+fn output_shared(ports: &[i32], task_ports: &[i32], u: Task, t: Task, k: usize) -> bool
     ensures { λ r. ⌜ ((T : Tables) → T .ports ≡ now (ports .entry) → T .taskPorts ≡ now («task_ports» .entry) → r ≡ outputWith T (isOutput T (u .0)) (t .0) k) ⌝ }
 {
     if own_port(ports, task_ports, port::OUTPUT, t, k) {
@@ -87,7 +87,7 @@ pub fn some_output_shared(ports: &[i32], task_ports: &[i32], u: Task, t: Task) -
 }
 
 // Row k is an input of task t that driver d does not set.
-pub fn input_no_destination(
+fn input_no_destination(
     ports: &[i32],
     task_ports: &[i32],
     copies: &[i32],

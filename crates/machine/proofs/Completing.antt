@@ -1,7 +1,7 @@
 -- The local outputs after a tick of a task: where it completes, and where it does not.
--- Assumes, of a task that completes, that it is declared.
+-- Assumes, of the rows of its task ports, that it is declared.
 use Prim.Native.Nat.{ℕ, _<_}
-use mathlib.Core.Path.{_≡_, refl, sym, ap, _∙_}
+use mathlib.Core.Path.{_≡_, refl, sym, ap}
 use mathlib.Core.Bool.{Bool, true, false}
 use mathlib.Core.List.{List}
 use lib.Dec.{eqb}
@@ -10,13 +10,13 @@ use lib.ListN.{length}
 use borrow.Author.Tests.{eq-eqb, ne-eqb}
 use Rattle.theory.specs.Lists.{puts}
 use Rattle.theory.proofs.Puts.{puts-length}
-use Rattle.program.specs.Tables.{Tables, output, taskCount}
-use Rattle.program.specs.Program.{Program, Task, portsOf, programOf, task}
+use Rattle.program.specs.Tables.{Tables, taskCount}
+use Rattle.program.specs.Program.{Program, Task, programOf, task}
 use Rattle.program.specs.Ports.{valueOf, takes}
 use Rattle.program.proofs.Decoded.{task-row}
 use Rattle.runs.specs.Tick.{leftOf}
 use Rattle.machine.specs.declared.State.{State}
-use Rattle.machine.specs.Schedules.{outputsAfter}
+use Rattle.machine.specs.Schedules.{outputsAfter, outputsBy}
 
 -- in its last tick a task completes, and its results are put into its local outputs
 pub outputs-done : (P : Program) (results : List ℤ) (s : State) (t : ℕ) → leftOf (s .left) t ≡ 1
@@ -37,8 +37,8 @@ outputs-length P results s t = go (eqb (leftOf (s .left) t) 1)
     go false = refl
 
 -- the outputs of a declared task are those of its rows
-pub completes : (T : Tables) (results : List ℤ) (s : State) (t : ℕ) → t < taskCount T → leftOf (s .left) t ≡ 1
-    → puts (takes (valueOf results) (portsOf T output t)) (s .outputs) ≡ outputsAfter (programOf T) results s t
-completes T results s t l e =
-    ap (λ (k : Task). puts (takes (valueOf results) (k .outputs)) (s .outputs)) (sym (task-row T t l))
-    ∙ sym (outputs-done (programOf T) results s t e)
+pub outputs-declared : (T : Tables) (results : List ℤ) (s : State) (t : ℕ) → t < taskCount T
+    → outputsBy T results s t ≡ outputsAfter (programOf T) results s t
+outputs-declared T results s t l =
+    ap (λ (k : Task). elim (eqb (leftOf (s .left) t) 1) [ true ↦ puts (takes (valueOf results) (k .outputs)) (s .outputs) | false ↦ s .outputs ])
+    (sym (task-row T t l))

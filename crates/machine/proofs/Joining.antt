@@ -1,48 +1,23 @@
--- One supplier's turn more: who runs, as the code hands it on.
+-- One supplier's turn more, as the code joins it, is the join of who runs.
 -- Assumes nothing.
 use Prim.Native.Nat.{ℕ}
-use mathlib.Core.Path.{_≡_, refl, sym, ap, _∙_}
-use mathlib.Core.Bool.{true, false}
-use native.Mathlib.Omega.{arith}
-use Rattle.theory.proofs.Bools.{clash}
+use mathlib.Core.Path.{_≡_, refl, ap₂, _∙_}
 use Rattle.runs.specs.declared.turn.Turn.{Turn}
-use Rattle.runs.specs.Tick.{Act, rest, run, runs, jobOf, turnOf}
+use Rattle.runs.specs.Tick.{Act, rest, run, turnOf}
 use Rattle.machine.specs.declared.schedules.Running.{Running}
-use Rattle.machine.specs.Schedules.{Who, nobody, one, several, join, told}
+use Rattle.machine.specs.Schedules.{Who, nobody, one, several, join, told, joinTold}
 
-module _ (before : Running) (t : Turn) (w : Who) (position : ℕ) (a : Act) (is-told : before ≡ told w) (is-turn : t ≡ turnOf position a) where
-  -- the turn says whether it runs
-  turn-runs : t .runs ≡ runs a
-  turn-runs = ap (λ (t : Turn). t .runs) is-turn
+-- case by case
+told-joined : (w : Who) (position : ℕ) (a : Act) → joinTold (told w) (turnOf position a) ≡ told (join w a)
+unfolding joinTold
+told-joined nobody position rest = refl
+told-joined nobody position (run t) = refl
+told-joined (one t) position rest = refl
+told-joined (one t) position (run u) = refl
+told-joined several position rest = refl
+told-joined several position (run t) = refl
 
-  -- it rests: all is as before
-  pub join-rests : t .runs ≡ false → before ≡ told (join w a)
-  join-rests h = is-told ∙ go w a (sym turn-runs ∙ h)
-    where
-      go : (w : Who) (a : Act) → runs a ≡ false → told w ≡ told (join w a)
-      go nobody rest h = refl
-      go (one t) rest h = refl
-      go several rest h = refl
-      go w (run j) h = clash {b = true} refl h
-
-  -- it is the first that runs
-  pub join-first : t .runs ≡ true → before .count ≡ 0 → record { count = 1; job = t .job } ≡ told (join w a)
-  join-first h n =
-      ap (λ (t : Turn). record { count = 1; job = t .job }) is-turn
-      ∙ go w a (sym turn-runs ∙ h) (sym (ap (λ (r : Running). r .count) is-told) ∙ n)
-    where
-      go : (w : Who) (a : Act) → runs a ≡ true → told w .count ≡ 0 → record { count = 1; job = record { 0 = jobOf a } } ≡ told (join w a)
-      go w rest h n = clash {b = false} h refl
-      go nobody (run j) h n = refl
-      go (one t) (run j) h n = absurd (omega arith)
-      go several (run j) h n = absurd (omega arith)
-
-  -- another runs too
-  pub join-further : t .runs ≡ true → (before .count ≡ 0 → ⊥) → record { count = 2; job = record { 0 = 0 } } ≡ told (join w a)
-  join-further h n = go w a (sym turn-runs ∙ h) (λ e. n (ap (λ (r : Running). r .count) is-told ∙ e))
-    where
-      go : (w : Who) (a : Act) → runs a ≡ true → (told w .count ≡ 0 → ⊥) → record { count = 2; job = record { 0 = 0 } } ≡ told (join w a)
-      go w rest h n = clash {b = false} h refl
-      go nobody (run j) h n = absurd (n refl)
-      go (one t) (run j) h n = refl
-      go several (run j) h n = refl
+-- so of what the code has at hand
+pub joined-told : (before : Running) (t : Turn) (w : Who) (position : ℕ) (a : Act) → before ≡ told w → t ≡ turnOf position a
+    → joinTold before t ≡ told (join w a)
+joined-told before t w position a e q = ap₂ joinTold e q ∙ told-joined w position a

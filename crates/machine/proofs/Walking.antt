@@ -12,13 +12,14 @@ use Rattle.theory.proofs.Filled.{filled, filled-more, filled-beyond, filled-all
 use Rattle.cells.specs.Limits.{suppliers}
 use Rattle.runs.specs.declared.block.Span.{Span}
 use Rattle.runs.specs.declared.turn.Turn.{Turn}
-use Rattle.runs.specs.Tick.{Row, Act, turnOf, turn}
+use Rattle.runs.specs.Tick.{Row, turnOf, turn}
 use Rattle.runs.specs.Schedule.{scheduleCount, rowsOf, blockOf, Sorted, Behind, found, spanOf}
 use Rattle.runs.proofs.Blocks.{behind-none, behind-supplier, found-within, found-behind, block-found}
 use Rattle.machine.specs.declared.State.{State}
 use Rattle.machine.specs.declared.schedules.Running.{Running}
 use Rattle.machine.specs.declared.schedules.Shares.{Shares}
-use Rattle.machine.specs.Schedules.{Who, join, told, whoRuns, actOf, movedOf, sharesOf}
+use Rattle.machine.specs.Schedules.{told, joinTold, whoRuns, actOf, movedOf, sharesOf}
+use Rattle.machine.proofs.Joining.{joined-told}
 
 module _ (S : List ℤ) (s : State) where
   -- before supplier j, from row `from` on: the suppliers below j had their turns, and no later supplier's block begins before that row
@@ -45,16 +46,17 @@ module _ (S : List ℤ) (s : State) where
       → at ≡ found S from j (s .current)
       → block ≡ spanOf S at
       → t ≡ turn (rowsOf block) (s .elapsed) (record { position = getD positions j 0; left = s .left })
-      → ((w : Who) (position : ℕ) (a : Act) → running ≡ told w → t ≡ turnOf position a → next ≡ told (join w a))
+      → next ≡ joinTold running t
       → Walked positions running from j
       → Walked (set positions j (t .position)) next (at .end) (j + 1)
-  walk-more positions running from j at block t next o l is-found is-block is-turn joins h = record {
+  walk-more positions running from j at block t next o l is-found is-block is-turn is-joined h = record {
     behind =
         subst (Behind S (j + 1) (s .current)) (sym (ap (λ (at : Span). at .end) is-found))
         (behind-supplier S j (j + 1) (suc (s .current)) (s .current) _ (omega arith) (found-behind S j (s .current) from (h .behind)));
     moved = filled-more (movedOf S s) (s .positions) j positions (t .position) (h .moved) (ap (λ (t : Turn). t .position) own-turn);
     who =
-        joins (whoRuns (actOf S s) j) (movedOf S s j) (actOf S s j) (h .who) own-turn
+        is-joined
+        ∙ joined-told running t (whoRuns (actOf S s) j) (movedOf S s j) (actOf S s j) (h .who) own-turn
         ∙ ap (λ (n : ℕ). told (whoRuns (actOf S s) n)) (sym (add-one j));
   }
     where

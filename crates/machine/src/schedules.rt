@@ -1,14 +1,13 @@
 // One tick of all suppliers' schedules: who runs, number 18, and the state after the tick.
 ghost use mathlib.Core.Path.{_≡_};
-ghost use Prim.Native.Nat.{ℕ, _≤_, _<_};
+ghost use Prim.Native.Nat.{_≤_};
 ghost use Rattle.cells.specs.Cell.{greatestWord};
 ghost use Rattle.cells.specs.Limits.{maxElapsed};
-ghost use Rattle.program.specs.Tables.{Tables, taskCount};
+ghost use Rattle.program.specs.Tables.{Tables};
 ghost use Rattle.program.specs.Program.{programOf};
-ghost use Rattle.runs.specs.Tick.{Act, turnOf};
 ghost use Rattle.runs.specs.Schedule.{Sorted};
 ghost use Rattle.suppliers.specs.Schedule.{Rows};
-ghost use Rattle.machine.specs.Schedules.{Who, join, told, sharesOf, outputsAfter, tickPassed, tickAll};
+ghost use Rattle.machine.specs.Schedules.{joinTold, sharesOf, outputsBy, tickPassed, tickAll};
 ghost use Rattle.machine.specs.Advance.{answer};
 use crate::Advanced;
 use crate::State;
@@ -33,7 +32,7 @@ pub struct Shares {
 
 // One supplier's turn more.
 fn join(before: Running, t: Turn) -> Running
-    ensures { λ r. ⌜ ((w : Who) (position : ℕ) (a : Act) → before ≡ told w → t ≡ turnOf position a → r ≡ told (join w a)) ⌝ }
+    ensures { λ r. ⌜ r ≡ joinTold before t ⌝ }
 {
     if !t.runs {
         return before;
@@ -49,7 +48,7 @@ fn join(before: Running, t: Turn) -> Running
 }
 
 // All suppliers' turns, each on its block, a part of the schedule: one walk over the rows finds them all.
-pub fn turns(rows: &[i32], s: State) -> Shares
+fn turns(rows: &[i32], s: State) -> Shares
     requires { ⌜ s .current ≤ greatestWord ⌝ }
     ensures { λ r. ⌜ (Sorted (now (rows .entry)) → r ≡ sharesOf (now (rows .entry)) s) ⌝ }
 {
@@ -80,7 +79,7 @@ fn outputs_after(
     s: State,
     t: Task,
 ) -> [i32; Program::PORTS]
-    ensures { λ r. ⌜ ((T : Tables) → T .ports ≡ now (ports .entry) → T .taskPorts ≡ now («task_ports» .entry) → t .0 < taskCount T → r ≡ outputsAfter (programOf T) (now (results .entry)) s (t .0)) ⌝ }
+    ensures { λ r. ⌜ ((T : Tables) → T .ports ≡ now (ports .entry) → T .taskPorts ≡ now («task_ports» .entry) → r ≡ outputsBy T (now (results .entry)) s (t .0)) ⌝ }
 {
     let left = s.left;
     let outputs = s.outputs;

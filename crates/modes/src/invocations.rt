@@ -12,7 +12,7 @@ use program::guard;
 use program::members;
 
 // Rows i and j of one mode have one task or share an output.
-pub fn invocation_clash(
+fn invocation_clash(
     ports: &[i32],
     task_ports: &[i32],
     invocations: &[i32],
@@ -30,7 +30,7 @@ pub fn invocation_clash(
 }
 
 // A row before row i clashes with it.
-pub fn has_invocation_clash(
+fn has_invocation_clash(
     ports: &[i32],
     task_ports: &[i32],
     invocations: &[i32],
@@ -49,7 +49,7 @@ pub fn has_invocation_clash(
 }
 
 // Row i breaks the rule.
-pub fn invocation_wrong(
+fn invocation_wrong(
     ports: &[i32],
     task_ports: &[i32],
     drivers: &[i32],

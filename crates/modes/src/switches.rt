@@ -12,7 +12,7 @@ use program::guard;
 use program::members;
 
 // The guards of rows i and j of one mode can hold for one valuation.
-pub fn switch_clash(drivers: &[i32], switches: &[i32], i: usize, j: usize) -> bool
+fn switch_clash(drivers: &[i32], switches: &[i32], i: usize, j: usize) -> bool
     ensures { λ r. ⌜ ((T : Tables) → T .drivers ≡ now (drivers .entry) → T .switches ≡ now (switches .entry) → r ≡ switchClash T i j) ⌝ }
 {
     if members::one_mode(switches, switch::WIDTH, i, j) {
@@ -24,7 +24,7 @@ pub fn switch_clash(drivers: &[i32], switches: &[i32], i: usize, j: usize) -> bo
 }
 
 // A row before row i clashes with it.
-pub fn has_switch_clash(drivers: &[i32], switches: &[i32], i: usize) -> bool
+fn has_switch_clash(drivers: &[i32], switches: &[i32], i: usize) -> bool
     ensures { λ r. ⌜ ((T : Tables) → T .drivers ≡ now (drivers .entry) → T .switches ≡ now (switches .entry) → r ≡ any (switchClash T i) i) ⌝ }
 {
     let mut j = 0;
@@ -38,7 +38,7 @@ pub fn has_switch_clash(drivers: &[i32], switches: &[i32], i: usize) -> bool
 }
 
 // Row i breaks the rule.
-pub fn switch_wrong(
+fn switch_wrong(
     ports: &[i32],
     drivers: &[i32],
     copies: &[i32],

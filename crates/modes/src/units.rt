@@ -1,8 +1,7 @@
 // Number 9: the least common multiple of a mode's frequencies exceeds the limit or does not divide its period.
-ghost use Prim.Native.Nat.{_≤_};
 ghost use mathlib.Core.Path.{_≡_};
 ghost use Rattle.theory.specs.Search.{first};
-ghost use Rattle.cells.specs.Limits.{maxModes};
+ghost use Rattle.cells.specs.Cell.{nameOf};
 ghost use Rattle.program.specs.Tables.{Tables, modeCount};
 ghost use Rattle.rules.specs.Timing.{unitsWrong};
 use cells::columns::mode;
@@ -11,7 +10,7 @@ use cells::limits::Program;
 use cells::table;
 use program::multiples;
 
-pub fn units_wrong(
+fn units_wrong(
     modes: &[i32],
     invocations: &[i32],
     updates: &[i32],
@@ -25,14 +24,14 @@ pub fn units_wrong(
     (Program::UNITS < units) | multiples::misses(period, units)
 }
 
-// The lowest such mode, of no more modes than the limit; the number of modes where there is none.
+// The lowest row that names such a mode, up to the limit the mode itself; the number of modes where there is none.
 pub fn first_wrong_units(
     modes: &[i32],
     invocations: &[i32],
     updates: &[i32],
     switches: &[i32],
 ) -> usize
-    ensures { λ r. ⌜ ((T : Tables) → T .modes ≡ now (modes .entry) → T .invocations ≡ now (invocations .entry) → T .updates ≡ now (updates .entry) → T .switches ≡ now (switches .entry) → modeCount T ≤ maxModes → r ≡ first (unitsWrong T) (modeCount T)) ⌝ }
+    ensures { λ r. ⌜ ((T : Tables) → T .modes ≡ now (modes .entry) → T .invocations ≡ now (invocations .entry) → T .updates ≡ now (updates .entry) → T .switches ≡ now (switches .entry) → r ≡ first (λ m. unitsWrong T (nameOf m)) (modeCount T)) ⌝ }
 {
     let n = modes.len() / mode::WIDTH;
     let mut m = 0;

@@ -10,7 +10,7 @@ use links::sources;
 use program::members;
 
 // Rows i and j of one mode share a destination.
-pub fn update_clash(copies: &[i32], updates: &[i32], i: usize, j: usize) -> bool
+fn update_clash(copies: &[i32], updates: &[i32], i: usize, j: usize) -> bool
     ensures { λ r. ⌜ ((T : Tables) → T .copies ≡ now (copies .entry) → T .updates ≡ now (updates .entry) → r ≡ updateClash T i j) ⌝ }
 {
     if members::one_mode(updates, update::WIDTH, i, j) {
@@ -22,7 +22,7 @@ pub fn update_clash(copies: &[i32], updates: &[i32], i: usize, j: usize) -> bool
 }
 
 // A row before row i clashes with it.
-pub fn has_update_clash(copies: &[i32], updates: &[i32], i: usize) -> bool
+fn has_update_clash(copies: &[i32], updates: &[i32], i: usize) -> bool
     ensures { λ r. ⌜ ((T : Tables) → T .copies ≡ now (copies .entry) → T .updates ≡ now (updates .entry) → r ≡ any (updateClash T i) i) ⌝ }
 {
     let mut j = 0;
@@ -36,7 +36,7 @@ pub fn has_update_clash(copies: &[i32], updates: &[i32], i: usize) -> bool
 }
 
 // Row i breaks the rule.
-pub fn update_wrong(
+fn update_wrong(
     ports: &[i32],
     drivers: &[i32],
     copies: &[i32],

@@ -9,7 +9,7 @@ use cells::table;
 use program::multiples;
 
 // Switch row s and invocation row i are of one mode, and the division is not whole.
-pub fn not_whole(invocations: &[i32], switches: &[i32], s: usize, i: usize) -> bool
+fn not_whole(invocations: &[i32], switches: &[i32], s: usize, i: usize) -> bool
     ensures { λ r. ⌜ ((T : Tables) → T .invocations ≡ now (invocations .entry) → T .switches ≡ now (switches .entry) → r ≡ notWhole T s i) ⌝ }
 {
     let a = table::mode(invocations, invocation::WIDTH, i, invocation::MODE);
@@ -20,7 +20,7 @@ pub fn not_whole(invocations: &[i32], switches: &[i32], s: usize, i: usize) -> b
 }
 
 // Some invocation row is such a one for switch row s.
-pub fn whole_wrong(invocations: &[i32], switches: &[i32], s: usize) -> bool
+fn whole_wrong(invocations: &[i32], switches: &[i32], s: usize) -> bool
     ensures { λ r. ⌜ ((T : Tables) → T .invocations ≡ now (invocations .entry) → T .switches ≡ now (switches .entry) → r ≡ wholeWrong T s) ⌝ }
 {
     let n = invocations.len() / invocation::WIDTH;

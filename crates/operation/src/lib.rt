@@ -16,7 +16,7 @@ use machine::State;
 use machine::schedules;
 use machine::values;
 
-pub mod judged;
+mod judged;
 
 // A state with these values in its ports and local outputs, and 0 elsewhere.
 fn begun(values: [i32; Program::PORTS]) -> State

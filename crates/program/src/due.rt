@@ -9,7 +9,7 @@ use cells::kinds::Mode;
 use cells::table;
 
 // A row of frequency f is due at unit k of u.
-pub fn is_due(u: usize, f: usize, k: usize) -> bool
+fn is_due(u: usize, f: usize, k: usize) -> bool
     ensures { λ r. ⌜ r ≡ due u f k ⌝ }
 {
     if f == 0 {

@@ -26,7 +26,7 @@ pub fn is_interval(drivers: &[i32], d: Driver) -> bool
 }
 
 // The guards of drivers d and e ask one port.
-pub fn one_port(drivers: &[i32], d: Driver, e: Driver) -> bool
+fn one_port(drivers: &[i32], d: Driver, e: Driver) -> bool
     ensures { λ r. ⌜ ((T : Tables) → T .drivers ≡ now (drivers .entry) → r ≡ eqb (guardPort T (d .0)) (guardPort T (e .0))) ⌝ }
 {
     let p = table::port(drivers, driver::WIDTH, d.index(), driver::PORT);
@@ -35,7 +35,7 @@ pub fn one_port(drivers: &[i32], d: Driver, e: Driver) -> bool
 }
 
 // The interval of d begins no later than that of e ends.
-pub fn low_at_most_high(drivers: &[i32], d: Driver, e: Driver) -> bool
+fn low_at_most_high(drivers: &[i32], d: Driver, e: Driver) -> bool
     ensures { λ r. ⌜ ((T : Tables) → T .drivers ≡ now (drivers .entry) → r ≡ leZ (guardLow T (d .0)) (guardHigh T (e .0))) ⌝ }
 {
     let low = table::signed(drivers, driver::WIDTH, d.index(), driver::LOW);

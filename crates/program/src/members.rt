@@ -26,7 +26,7 @@ pub fn is_kind(ports: &[i32], kind: usize, p: Port) -> bool
 }
 
 // Row k of the task ports is (t, p).
-pub fn task_port_at(task_ports: &[i32], t: Task, p: Port, k: usize) -> bool
+fn task_port_at(task_ports: &[i32], t: Task, p: Port, k: usize) -> bool
     ensures { λ r. ⌜ ((T : Tables) → T .taskPorts ≡ now («task_ports» .entry) → r ≡ isTaskPort T (t .0) (p .0) k) ⌝ }
 {
     let a = table::task(task_ports, task_port::WIDTH, k, task_port::TASK);
@@ -69,7 +69,7 @@ pub fn is_output(ports: &[i32], task_ports: &[i32], t: Task, p: Port) -> bool
 }
 
 // Row k of the mode ports is (m, p).
-pub fn mode_port_at(mode_ports: &[i32], m: Mode, p: Port, k: usize) -> bool
+fn mode_port_at(mode_ports: &[i32], m: Mode, p: Port, k: usize) -> bool
     ensures { λ r. ⌜ ((T : Tables) → T .modePorts ≡ now («mode_ports» .entry) → r ≡ modePortAt T (m .0) (p .0) k) ⌝ }
 {
     let a = table::mode(mode_ports, mode_port::WIDTH, k, mode_port::MODE);
@@ -99,7 +99,7 @@ pub fn is_mode_port(mode_ports: &[i32], m: Mode, p: Port) -> bool
 }
 
 // Row c of the copies is one of driver d, to p.
-pub fn copies_to(copies: &[i32], d: Driver, p: Port, c: usize) -> bool
+fn copies_to(copies: &[i32], d: Driver, p: Port, c: usize) -> bool
     ensures { λ r. ⌜ ((T : Tables) → T .copies ≡ now (copies .entry) → r ≡ copiesTo T (d .0) (p .0) c) ⌝ }
 {
     let a = table::driver(copies, copy::WIDTH, c, copy::DRIVER);

@@ -23,7 +23,7 @@ pub fn misses(u: usize, f: usize) -> bool
 }
 
 // Row i is one of mode m, and u is no multiple of its frequency.
-pub fn row_misses(t: &[i32], width: usize, m: Mode, u: usize, i: usize) -> bool
+fn row_misses(t: &[i32], width: usize, m: Mode, u: usize, i: usize) -> bool
     requires { ⌜ Column width frequencyColumn ⌝ }
     ensures { λ r. ⌜ r ≡ rowMisses width (now (t .entry)) (m .0) u i ⌝ }
 {
@@ -33,7 +33,7 @@ pub fn row_misses(t: &[i32], width: usize, m: Mode, u: usize, i: usize) -> bool
 }
 
 // Some row of the table is.
-pub fn some_row_misses(t: &[i32], width: usize, m: Mode, u: usize) -> bool
+fn some_row_misses(t: &[i32], width: usize, m: Mode, u: usize) -> bool
     requires { ⌜ Column width frequencyColumn ⌝ }
     ensures { λ r. ⌜ r ≡ any (rowMisses width (now (t .entry)) (m .0) u) (rowsIn width (now (t .entry))) ⌝ }
 {
@@ -49,7 +49,7 @@ pub fn some_row_misses(t: &[i32], width: usize, m: Mode, u: usize) -> bool
 }
 
 // u is a multiple of every frequency of mode m.
-pub fn is_multiple(
+fn is_multiple(
     invocations: &[i32],
     updates: &[i32],
     switches: &[i32],

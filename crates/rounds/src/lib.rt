@@ -1,5 +1,5 @@
 // Numbers 14 and 15: the worst-case run of a supplier's schedule code over the round of each mode, one walk over ticks and rows.
 pub mod every_mode;
-pub mod own;
-pub mod round;
-pub mod units;
+mod own;
+mod round;
+mod units;

@@ -2,4 +2,4 @@
 pub mod block;
 pub mod turn;
 pub mod unit;
-pub mod window;
+mod window;

@@ -17,7 +17,7 @@ fn window_has(windows: &[i32], supplier: usize, m: Mode, tick: usize, i: usize) 
 }
 
 // Where the first window that has the tick ends; 0 where none has it.
-pub fn window_end(windows: &[i32], supplier: usize, m: Mode, tick: usize) -> usize
+fn window_end(windows: &[i32], supplier: usize, m: Mode, tick: usize) -> usize
     ensures { λ r. ⌜ r ≡ windowEnd (now (windows .entry)) supplier (m .0) tick ⌝ }
 {
     let n = windows.len() / window::WIDTH;

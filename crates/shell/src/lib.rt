@@ -1,5 +1,5 @@
 // The body of the shipped program: reads a program from one descriptor, compiles it, and prints on another.
-pub mod answer;
+mod answer;
 mod printing;
 mod reading;
 

@@ -10,6 +10,7 @@ ghost use Rattle.rules.specs.Verdict.{programVerdict};
 ghost use Rattle.code.specs.Compile.{CodeFits};
 ghost use Rattle.layout.specs.Few.{Few};
 ghost use Rattle.suppliers.specs.Schedule.{rowCount, joinedBad};
+ghost use Rattle.suppliers.specs.Delays.{countedDelays, joinedBadBy};
 use crate::schedule_rows;
 use cells::columns::schedule;
 use cells::limits::Program;
@@ -46,7 +47,7 @@ fn some_long(rows: &[i32]) -> bool
     false
 }
 
-// The joined schedule is refused.
+// The joined schedule is refused, by the delays that are counted; of a program that 1 to 11 pass, by those of its listing.
 pub fn refused(
     ports: &[i32],
     tasks: &[i32],
@@ -59,7 +60,8 @@ pub fn refused(
     requires { ⌜ Few (now invocations) (now updates) (now switches) ⌝ }
     requires { ⌜ rowsIn modeWidth (now modes) ≤ maxModes ⌝ }
     requires { ⌜ rowsIn portWidth (now ports) ≤ maxPorts ⌝ }
-    ensures { λ r. ⌜ ((T : Tables) → T .ports ≡ now (ports .entry) → T .tasks ≡ now (tasks .entry) → T .modes ≡ now (modes .entry) → T .invocations ≡ now (invocations .entry) → T .updates ≡ now (updates .entry) → T .switches ≡ now (switches .entry) → programVerdict T ≡ 0 → CodeFits T → r ≡ joinedBad T (now (rows .entry))) ⌝ }
+    ensures counted { λ r. ⌜ ((T : Tables) → T .ports ≡ now (ports .entry) → T .tasks ≡ now (tasks .entry) → T .modes ≡ now (modes .entry) → T .invocations ≡ now (invocations .entry) → T .updates ≡ now (updates .entry) → T .switches ≡ now (switches .entry) → r ≡ joinedBadBy T (countedDelays T) (now (rows .entry))) ⌝ }
+    ensures listed { λ r. ⌜ ((T : Tables) → T .ports ≡ now (ports .entry) → T .tasks ≡ now (tasks .entry) → T .modes ≡ now (modes .entry) → T .invocations ≡ now (invocations .entry) → T .updates ≡ now (updates .entry) → T .switches ≡ now (switches .entry) → programVerdict T ≡ 0 → CodeFits T → r ≡ joinedBad T (now (rows .entry))) ⌝ }
 {
     let mut table = [0u32; Program::CODE];
     delays::fill(ports, modes, invocations, updates, switches, &mut table);

@@ -5,9 +5,9 @@ ghost use Prim.Native.Nat.{_-_};
 ghost use lib.Dec.{eqb};
 ghost use Rattle.theory.specs.Search.{first};
 ghost use Rattle.program.specs.Tables.{Tables};
-ghost use Rattle.code.specs.Compile.{listingOf};
 ghost use Rattle.runs.specs.Schedule.{scheduleCount, rowSupplier, rowAddress, rowTimeout};
-ghost use Rattle.suppliers.specs.Schedule.{delayFits, Tabled, dispatchFits, idleFits, precedes, rowWrong, partBad};
+ghost use Rattle.suppliers.specs.Schedule.{delayFits, dispatchFits, idleFits, precedes};
+ghost use Rattle.suppliers.specs.Delays.{rowWrongBy, partBadBy};
 use cells::columns::schedule;
 use cells::columns::task;
 use cells::limits::Program;
@@ -68,7 +68,7 @@ fn above(i: usize) -> usize
 
 // Row i is wrong by itself, or comes before the row above it.
 fn row_wrong(tasks: &[i32], delays: &[u32], rows: &[i32], i: usize) -> bool
-    ensures { λ r. ⌜ ((T : Tables) → T .tasks ≡ now (tasks .entry) → Tabled T (now (delays .entry)) → r ≡ rowWrong T (listingOf T) (now (rows .entry)) i) ⌝ }
+    ensures { λ r. ⌜ ((T : Tables) → T .tasks ≡ now (tasks .entry) → r ≡ rowWrongBy T (now (delays .entry)) (now (rows .entry)) i) ⌝ }
 {
     let supplier = table::field(rows, schedule::WIDTH, i, schedule::SUPPLIER);
     let action = dispatch_fits(tasks, rows, i) | idle_fits(rows, i);
@@ -78,7 +78,7 @@ fn row_wrong(tasks: &[i32], delays: &[u32], rows: &[i32], i: usize) -> bool
 
 // The first row that is wrong; the count where none is.
 pub fn first_wrong_row(tasks: &[i32], delays: &[u32], rows: &[i32]) -> usize
-    ensures { λ r. ⌜ ((T : Tables) → T .tasks ≡ now (tasks .entry) → Tabled T (now (delays .entry)) → r ≡ first (rowWrong T (listingOf T) (now (rows .entry))) (scheduleCount (now (rows .entry)))) ⌝ }
+    ensures { λ r. ⌜ ((T : Tables) → T .tasks ≡ now (tasks .entry) → r ≡ first (rowWrongBy T (now (delays .entry)) (now (rows .entry))) (scheduleCount (now (rows .entry)))) ⌝ }
 {
     let n = rows.len() / schedule::WIDTH;
     let mut i = 0;
@@ -108,7 +108,7 @@ fn first_foreign_row(rows: &[i32], supplier: usize) -> usize
 
 // The part of one supplier: wrong rows, rows of another, or no such supplier.
 pub fn part_bad(tasks: &[i32], delays: &[u32], rows: &[i32], supplier: usize) -> bool
-    ensures { λ r. ⌜ ((T : Tables) → T .tasks ≡ now (tasks .entry) → Tabled T (now (delays .entry)) → r ≡ partBad T (now (rows .entry)) supplier) ⌝ }
+    ensures { λ r. ⌜ ((T : Tables) → T .tasks ≡ now (tasks .entry) → r ≡ partBadBy T (now (delays .entry)) (now (rows .entry)) supplier) ⌝ }
 {
     let n = rows.len() / schedule::WIDTH;
     let wrong = first_wrong_row(tasks, delays, rows) < n;

@@ -10,7 +10,8 @@ use lib.Dec.{eqb}
 use borrow.Author.Tests.{eq-eqb, ne-eqb}
 use Rattle.theory.proofs.Bools.{says-eq, says-and}
 use Rattle.theory.proofs.Conditions.{cond-yes, cond-no}
-use Rattle.code.specs.Op.{Op, call, schedule, branch, jump, future, return, faulty, unused, decode}
+use Rattle.code.specs.Op.{Op, call, schedule, branch, jump, future, return, faulty, callNumber, scheduleNumber, ifNumber, jumpNumber, futureNumber, returnNumber, unused, decode}
+use Rattle.code.proofs.Fetch.{decode-unknown}
 use Rattle.text.specs.Decimal.{space, newline, decimal}
 use Rattle.text.specs.Line.{room, mostArgument}
 use Rattle.text.specs.Listing.{mnemonic, arguments, spaced, lineOf}
@@ -69,21 +70,11 @@ unfolding saidOf
 said-unused zero o = sym (said-yes zero (mnemonic o ++ spaced (arguments o)) refl)
 said-unused (suc n) o = sym (said-no (suc n) (mnemonic o ++ spaced (arguments o)) (λ e. omega arith))
 
--- the instruction that this number says
-pub said-at : (number known a b : ℕ) → number ≡ known → saidOf (decode known a b) ≡ saidOf (decode number a b)
-said-at number known a b e = ap (λ (k : ℕ). saidOf (decode k a b)) (sym e)
-
 -- no other number says one
-pub said-unknown : (n a b : ℕ)
-    → (n ≡ 0 → ⊥) → (n ≡ 1 → ⊥) → (n ≡ 2 → ⊥) → (n ≡ 3 → ⊥) → (n ≡ 4 → ⊥) → (n ≡ 5 → ⊥) → [] ≡ saidOf (decode n a b)
+pub said-unknown : (n a b : ℕ) → (n ≡ callNumber → ⊥) → (n ≡ scheduleNumber → ⊥) → (n ≡ ifNumber → ⊥) → (n ≡ jumpNumber → ⊥)
+    → (n ≡ futureNumber → ⊥) → (n ≡ returnNumber → ⊥) → [] ≡ saidOf (decode n a b)
 unfolding saidOf
-said-unknown zero a b h0 h1 h2 h3 h4 h5 = absurd (h0 refl)
-said-unknown (suc zero) a b h0 h1 h2 h3 h4 h5 = absurd (h1 refl)
-said-unknown (suc (suc zero)) a b h0 h1 h2 h3 h4 h5 = absurd (h2 refl)
-said-unknown (suc (suc (suc zero))) a b h0 h1 h2 h3 h4 h5 = absurd (h3 refl)
-said-unknown (suc (suc (suc (suc zero)))) a b h0 h1 h2 h3 h4 h5 = absurd (h4 refl)
-said-unknown (suc (suc (suc (suc (suc zero))))) a b h0 h1 h2 h3 h4 h5 = absurd (h5 refl)
-said-unknown (suc (suc (suc (suc (suc (suc n)))))) a b h0 h1 h2 h3 h4 h5 = refl
+said-unknown n a b c s i j f r = ap saidOf (sym (decode-unknown n a b c s i j f r))
 
 -- the pieces of a line, one after the other
 joined : (address mnemonic arguments : List ℕ)

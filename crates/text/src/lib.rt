@@ -1,5 +1,5 @@
 // Text: numbers out of bytes and into bytes, a line of bytes, the lines and the pages of a listing.
-pub mod decimal;
+mod decimal;
 pub mod line;
 pub mod listing;
 pub mod number;

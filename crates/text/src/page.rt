@@ -18,7 +18,7 @@ pub struct Page {
 }
 
 // The line of an instruction of a code.
-pub fn line_at(code: &[u32], i: usize) -> Line
+fn line_at(code: &[u32], i: usize) -> Line
     requires { ⌜ i < length (now code) / wordsEach ⌝ }
     ensures { λ r. ⌜ Holds r (lineOf i (getD (instructions (now (code .entry))) i faulty)) ⌝ }
 {

@@ -90,7 +90,7 @@ part-told : (c : tie.After-refused)
 part-told c =
     let L = lent (c .before .before .before .before .before .before .before) in
     let a = accepted (c .before .before) in
-    c .refused .ensures (L .tables) refl refl refl refl refl refl (a .0) (a .1) ∙ ap (partBad (L .tables) (L .part)) (own (c .before))
+    c .refused .ensures .1 (L .tables) refl refl refl refl refl refl (a .0) (a .1) ∙ ap (partBad (L .tables) (L .part)) (own (c .before))
 
 -- it did not apply
 part-fits : (c : tie.Else3)

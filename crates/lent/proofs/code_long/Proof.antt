@@ -29,7 +29,7 @@ unfolding codeLong
 returns c T p d e f g =
     let own =
     c .before .before .sensors .ensures ∙ ap (λ (t : List ℤ). length (sensorRows t (λ (p : ℕ). p))) (sym p) ∙ ap length (sym (sensors-rows T)) in
-    ap (λ (n : ℕ). ltb maxCode n) (c .before .lay-out .ensures .0 T d e f g own .length)
+    ap (λ (n : ℕ). ltb maxCode n) (c .before .lay-out .ensures .1 .0 T d e f g own .length)
 
 pub code-long-spec : {M : Type 1} → statement M
 code-long-spec = tie.close (tie.spec sensors-requires lay-out-requires returns)

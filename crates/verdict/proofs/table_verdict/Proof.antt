@@ -1,14 +1,18 @@
 -- `verdict::table_verdict` meets its contract: each test that is left behind leaves the refusals after it. Assumes nothing.
-use Prim.Native.Nat.{ℕ, _≤_}
+use Prim.Native.Nat.{ℕ, zero, suc, _≤_, _<_}
 use mathlib.Core.Path.{_≡_, refl, sym, ap, _∙_}
-use mathlib.Core.Bool.{false}
+use mathlib.Core.Bool.{Bool, false, _||_}
 use lib.IntN.{ℤ}
 use lib.ListN.{drop}
+use native.Mathlib.Omega.{arith}
+use Rattle.theory.specs.Search.{any}
 use Rattle.theory.specs.Verdict.{verdict}
 use Rattle.theory.proofs.Conditions.{or-else-yes, or-else-no}
 use Rattle.theory.proofs.Search.{hit, miss}
+use Rattle.cells.specs.Cell.{nameOf}
 use Rattle.cells.specs.Limits.{maxModes}
 use Rattle.cells.proofs.Ints.{back}
+use Rattle.cells.proofs.Names.{name-small}
 use Rattle.program.specs.Tables.{Tables, tables, taskPortCount, copyCount, modeWidth, modeCount, modePortCount, invocationCount, updateCount, switchCount}
 use Rattle.rules.specs.Shape.{shapeBad}
 use Rattle.rules.specs.Fields.{fieldsBad}
@@ -40,6 +44,17 @@ told c =
 -- tables of their shape have few modes
 few : (T : Tables) → shapeBad T ≡ false → modeCount T ≤ maxModes
 few T e = whole-few modeWidth maxModes (T .modes) (shape-bars T .ok e .modes)
+
+-- tests that agree on every row agree on some row
+any-alike : (p q : ℕ → Bool) (n : ℕ) → ((k : ℕ) → k < n → p k ≡ q k) → any p n ≡ any q n
+unfolding any
+any-alike p q zero h = refl
+any-alike p q (suc n) h = λ i. any-alike p q n (λ k l. h k (omega arith)) i || h n (omega arith) i
+
+-- each of so few modes is the one that its row names
+named : (T : Tables) → shapeBad T ≡ false → any (λ m. unitsWrong T (nameOf m)) (modeCount T) ≡ any (unitsWrong T) (modeCount T)
+named T e =
+    any-alike (λ m. unitsWrong T (nameOf m)) (unitsWrong T) (modeCount T) (λ m l. ap (unitsWrong T) (name-small m (omega (arith, few T e))))
 
 -- the first k refusals do not apply to tables of their shape: the verdict is that of the rest
 abbrev Left : ℕ → tie.Start → Type 0
@@ -88,7 +103,7 @@ no-9 : (c : tie.Else8) → Left 8 (c .before .before .before .before .before .be
 unfolding unitsBad
 no-9 c s =
     let T = lent (c .before .before .before .before .before .before .before .before .before .before .before .before .before .before .before .before) in
-    no-8 (c .before .before) s ∙ or-else-no _ _ (miss (unitsWrong T) (modeCount T) _ (c .before .first-wrong-units .ensures T refl refl refl refl (few T s)) (c .if8 .left))
+    no-8 (c .before .before) s ∙ or-else-no _ _ (sym (named T s) ∙ miss (λ m. unitsWrong T (nameOf m)) (modeCount T) _ (c .before .first-wrong-units .ensures T refl refl refl refl) (c .if8 .left))
 
 no-10 : (c : tie.Else9) → Left 9 (c .before .before .before .before .before .before .before .before .before .before .before .before .before .before .before .before .before .before)
 unfolding wholeBad
@@ -163,7 +178,7 @@ returns-8 : tie.Need-returns-8
 unfolding unitsBad
 returns-8 c s =
     let T = lent (c .before .before .before .before .before .before .before .before .before .before .before .before .before .before .before .before) in
-    sym (no-8 (c .before .before) s ∙ or-else-yes _ _ (hit (unitsWrong T) (modeCount T) _ (c .before .first-wrong-units .ensures T refl refl refl refl (few T s)) (c .if8 .taken)))
+    sym (no-8 (c .before .before) s ∙ or-else-yes _ _ (sym (named T s) ∙ hit (λ m. unitsWrong T (nameOf m)) (modeCount T) _ (c .before .first-wrong-units .ensures T refl refl refl refl) (c .if8 .taken)))
 
 first-not-whole-requires : tie.Need-first-not-whole-requires
 first-not-whole-requires c κs = search needs

@@ -21,7 +21,7 @@ laid : (c : tie.After-lay-out) (T : Tables) → T .ports ≡ c .before .before .
     → T .invocations ≡ c .before .before .before .args .invocations .now → T .updates ≡ c .before .before .before .args .updates .now → T .switches ≡ c .before .before .before .args .switches .now
     → LaidOut T (c .lay-out .result)
 laid c T e f g h i =
-    c .lay-out .ensures .0 T f g h i
+    c .lay-out .ensures .1 .0 T f g h i
     (c .before .sensors .ensures ∙ sym (ap length (sensors-rows T) ∙ ap (λ (t : List ℤ). length (sensorRows t (λ (p : ℕ). p))) e))
 
 sensors-requires : tie.Need-sensors-requires
@@ -49,7 +49,7 @@ slice-aggregate-all-2 c = search needs
 all-requires : tie.Need-all-requires
 all-requires c κs =
     let s = c .before .before .before .before .before .before .before .before .before in
-    let small = c .before .before .before .before .before .before .lay-out .ensures .1 in
+    let small = c .before .before .before .before .before .before .lay-out .ensures .1 .1 in
     (s .pre .0, (λ m. omega (arith, small .starts m, small .entries m), (λ m. omega (arith, small .starts m, small .entries m), (c .before .before .before .before .before .before .before .sensors .ensures, (s .pre .1 .0, s .pre .1 .1)))))
 
 same-length : tie.Need-same-length

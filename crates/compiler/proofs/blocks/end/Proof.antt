@@ -3,6 +3,7 @@ use mathlib.Core.Path.{ap, _∙_}
 use mathlib.Core.List.{[], _∷_}
 use native.Mathlib.Omega.{arith}
 use borrow.Author.Needs.{needs}
+use Rattle.code.specs.Op.{returnNumber}
 use Rattle.compiler.specs.Written.{Written, instruction, writes}
 use Rattle.compiler.proofs.blocks.end.Statement.{statement}
 use Rattle.compiler.proofs.blocks.end.Tie as tie
@@ -19,7 +20,7 @@ same-length c = search needs
 
 returns : tie.Need-returns
 returns c =
-    c .before .before .instruction2 .ensures ∙ ap (λ (w : Written). writes (instruction 5 0 0 ∷ []) w) (c .before .before .before .before .before .before .instruction .ensures)
+    c .before .before .instruction2 .ensures ∙ ap (λ (w : Written). writes (instruction returnNumber 0 0 ∷ []) w) (c .before .before .before .before .before .before .instruction .ensures)
 
 pub end-spec : {M : Type 1} → statement M
 end-spec = tie.close (tie.spec instruction-requires instruction-requires-2 same-length returns)

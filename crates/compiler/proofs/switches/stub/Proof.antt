@@ -4,6 +4,7 @@ use mathlib.Core.Path.{ap, _∙_}
 use mathlib.Core.List.{[], _∷_}
 use native.Mathlib.Omega.{arith}
 use borrow.Author.Needs.{needs}
+use Rattle.code.specs.Op.{callNumber, jumpNumber}
 use Rattle.compiler.specs.Written.{Written, instruction, written, writes}
 use Rattle.compiler.proofs.switches.stub.Statement.{statement}
 use Rattle.compiler.proofs.switches.stub.Tie as tie
@@ -26,9 +27,9 @@ returns : tie.Need-returns
 returns c =
     let a = c .before .before .before .before .before .before .before .before .before .before .args in
     c .before .before .instruction2 .ensures
-    ∙ ap (λ (w : Written). writes (instruction 3 (a .to) 0 ∷ []) w)
+    ∙ ap (λ (w : Written). writes (instruction jumpNumber (a .to) 0 ∷ []) w)
     (c .before .before .before .before .before .before .instruction .ensures
-    ∙ ap (λ (n : ℕ). writes (instruction 0 n 0 ∷ []) (written (a .code .now) (a .at))) (c .before .before .before .before .before .before .before .index .ensures))
+    ∙ ap (λ (n : ℕ). writes (instruction callNumber n 0 ∷ []) (written (a .code .now) (a .at))) (c .before .before .before .before .before .before .before .index .ensures))
 
 pub stub-spec : {M : Type 1} → statement M
 stub-spec =

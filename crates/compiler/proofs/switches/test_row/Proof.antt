@@ -6,6 +6,7 @@ use borrow.Author.Needs.{needs}
 use Rattle.program.specs.Tables.{switchWidth}
 use Rattle.program.specs.Program.{Switch}
 use Rattle.code.specs.Listing.{testsOf}
+use Rattle.code.specs.Op.{ifNumber}
 use Rattle.compiler.specs.Written.{Words, instruction, three, written, writes}
 use Rattle.compiler.specs.Rows.{isDue}
 use Rattle.compiler.specs.Switches.{switchIn}
@@ -36,7 +37,7 @@ returns c =
     let driver : c .before .before .before .before .before .driver .result .0 ≡ row (a .i) .driver = c .before .before .before .before .before .driver .ensures in
     c .before .before .instruction .ensures
     ∙ ap (λ (os : List Words). writes os (written (a .code .now) (a .at)))
-    (ap (λ (n : ℕ). instruction 2 n (a .stub) ∷ []) (c .before .before .before .index .ensures ∙ driver)
+    (ap (λ (n : ℕ). instruction ifNumber n (a .stub) ∷ []) (c .before .before .before .index .ensures ∙ driver)
     ∙ ap (λ (ws : List Switch). map three (testsOf ws (a .stub))) (sym (one-yes due row (a .i) (sym (c .before .before .before .before .before .before .before .row-due .ensures) ∙ c .before .before .before .before .before .before .if1 .taken))))
 
 returns-2 : tie.Need-returns-2

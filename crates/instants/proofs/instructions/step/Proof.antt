@@ -7,7 +7,7 @@ use lib.ListN.{length}
 use borrow.Author.Needs.{needs}
 use Rattle.cells.specs.Limits.{wordsEach}
 use Rattle.program.specs.Program.{Program, programOf}
-use Rattle.code.specs.Op.{decode, instructions}
+use Rattle.code.specs.Op.{callNumber, scheduleNumber, ifNumber, jumpNumber, futureNumber, returnNumber, decode, instructions}
 use Rattle.instants.specs.declared.instructions.Stepped.{Stepped}
 use Rattle.instants.specs.Step.{addressEnd, stepped, stepAt}
 use Rattle.instants.proofs.Fetched.{fetched-none, fetched, fetched-unknown}
@@ -82,32 +82,32 @@ refused-requires-2 c κs = search needs
 returns-2 : tie.Need-returns-2
 returns-2 c T p t o d h =
     let s = start (c .before .before) .args in
-    executed (c .before .before) (programOf T) _ 0 (c .before .match .keys1) (c .call .ensures T p t o d h (s .times .now) (length (s .code .now) / wordsEach))
+    executed (c .before .before) (programOf T) _ callNumber (c .before .match .keys1) (c .call .ensures T p t o d h (s .times .now) (length (s .code .now) / wordsEach))
 
 returns-3 : tie.Need-returns-3
 returns-3 c T p t o d h =
     let s = start (c .before .before) .args in
-    executed (c .before .before) (programOf T) _ 1 (c .before .match .keys2) (c .schedule .ensures T t (s .readings .now) (length (s .code .now) / wordsEach))
+    executed (c .before .before) (programOf T) _ scheduleNumber (c .before .match .keys2) (c .schedule .ensures T t (s .readings .now) (length (s .code .now) / wordsEach))
 
 returns-4 : tie.Need-returns-4
 returns-4 c T p t o d h =
     let s = start (c .before .before) .args in
-    executed (c .before .before) (programOf T) _ 2 (c .before .match .keys3) (c .branch .ensures T d (s .readings .now) (s .times .now))
+    executed (c .before .before) (programOf T) _ ifNumber (c .before .match .keys3) (c .branch .ensures T d (s .readings .now) (s .times .now))
 
 returns-5 : tie.Need-returns-5
 returns-5 c T p t o d h =
     let s = start (c .before .before) .args in
-    executed (c .before .before) (programOf T) _ 3 (c .before .match .keys4) (c .jump .ensures T (s .readings .now) (s .times .now))
+    executed (c .before .before) (programOf T) _ jumpNumber (c .before .match .keys4) (c .jump .ensures T (s .readings .now) (s .times .now))
 
 returns-6 : tie.Need-returns-6
 returns-6 c T p t o d h =
     let s = start (c .before .before) .args in
-    executed (c .before .before) (programOf T) _ 4 (c .before .match .keys5) (c .future .ensures T (s .readings .now) (s .times .now))
+    executed (c .before .before) (programOf T) _ futureNumber (c .before .match .keys5) (c .future .ensures T (s .readings .now) (s .times .now))
 
 returns-7 : tie.Need-returns-7
 returns-7 c T p t o d h =
     let s = start (c .before .before) .args in
-    executed (c .before .before) (programOf T) _ 5 (c .before .match .keys6)
+    executed (c .before .before) (programOf T) _ returnNumber (c .before .match .keys6)
     (c .finish .ensures T (s .readings .now) (s .times .now) (length (s .code .now) / wordsEach))
 
 returns-8 : tie.Need-returns-8

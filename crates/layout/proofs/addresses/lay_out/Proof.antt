@@ -8,7 +8,7 @@ use Rattle.cells.specs.Limits.{maxModes}
 use Rattle.program.specs.Tables.{Tables, modeWidth, modeCount}
 use Rattle.layout.specs.Layout.{laidMore, LaidOut, Small}
 use Rattle.layout.proofs.Limits.{lent}
-use Rattle.layout.proofs.Laid.{laid, laid-more, laid-small, laid-out}
+use Rattle.layout.proofs.Laid.{laid, laid-more, laid-modes, laid-small, laid-out}
 use Rattle.layout.proofs.addresses.lay_out.Statement.{statement}
 use Rattle.layout.proofs.addresses.lay_out.Tie as tie
 
@@ -47,13 +47,18 @@ returns : tie.Need-returns Inv-loop μ-loop
 returns c =
     let s = c .before .before in
     let m = c .before .loop .m in
+    let sensors = s .args .sensors in
     let told = c .before .loop .inv in
     let few : m ≤ maxModes = omega (arith, told .0, s .pre .1 .0) in
-    let T = lent (s .args .modes .now) (s .args .invocations .now) (s .args .updates .now) (s .args .switches .now) in (
-      λ T d e f g q.
-          let all : m ≡ modeCount T = omega (arith, told .0, c .loop-test .left, ap (rowsIn modeWidth) d) in
-          subst (LaidOut T) (sym (told .1 T e f g ∙ ap (laid T (s .args .sensors)) all)) (laid-out T (s .args .sensors) q (omega arith)),
-      subst Small (sym (told .1 T refl refl refl)) (laid-small T (s .args .sensors) (s .pre .0) (s .pre .1 .1) m few),
+    let T = lent (s .args .modes .now) (s .args .invocations .now) (s .args .updates .now) (s .args .switches .now) in
+    let all : (T : Tables) → T .modes ≡ s .args .modes .now → m ≡ modeCount T = λ T d. omega (arith, told .0, c .loop-test .left, ap (rowsIn modeWidth) d) in
+    let laid-of : (T : Tables) → T .modes ≡ s .args .modes .now → T .invocations ≡ s .args .invocations .now → T .updates ≡ s .args .updates .now
+    → T .switches ≡ s .args .switches .now → c .before .loop .at ≡ laid T sensors (modeCount T) = λ T d e f g. told .1 T e f g ∙ ap (laid T sensors) (all T d) in (
+      λ T d e f g. laid-of T d e f g ∙ laid-modes T sensors (modeCount T),
+      (
+        λ T d e f g q. subst (LaidOut T) (sym (laid-of T d e f g)) (laid-out T sensors q (omega (arith, few, all T d))),
+        subst Small (sym (told .1 T refl refl refl)) (laid-small T sensors (s .pre .0) (s .pre .1 .1) m few),
+      ),
     )
 
 pub lay-out-spec : {M : Type 1} → statement M

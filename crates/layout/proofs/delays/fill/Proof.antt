@@ -11,10 +11,9 @@ use borrow.Author.Needs.{needs}
 use Rattle.theory.proofs.Lists.{those-few}
 use Rattle.cells.specs.Cell.{rowsIn}
 use Rattle.cells.specs.Limits.{maxPorts, maxModes}
-use Rattle.program.specs.Tables.{Tables, modeWidth}
+use Rattle.program.specs.Tables.{Tables, modeWidth, modeCount}
 use Rattle.program.specs.Sets.{sensorRows}
 use Rattle.program.specs.Units.{units}
-use Rattle.program.specs.Program.{programOf}
 use Rattle.program.proofs.Decoded.{sensors-rows}
 use Rattle.layout.specs.Layout.{unitCounts, sizeIn}
 use Rattle.layout.specs.Delays.{unitsMarked, ticksIn, modesMarked}
@@ -68,14 +67,16 @@ same-length c =
     walked-length _ _ _ (c .before .loop .inv T refl refl refl refl) (λ m at t. walked-keeps _ _ at (λ k b r. length-set r _ _) (units T m) t)
 
 returns : tie.Need-returns Inv-loop μ-loop
-returns c T p d e f g v =
+returns c =
     let s = c .before .before .before .before in
-    let sensors = c .before .before .sensors in
-    let own : sensors .result ≡ length (programOf T .sensors) =
-    sensors .ensures ∙ ap (λ (t : List ℤ). length (sensorRows t (λ p. p))) (sym p) ∙ ap length (sym (sensors-rows T)) in
-    walked-all _ _ _ _ _ _ _ _ (c .loop-test .left) (c .before .loop .inv T d e f g) .0
-    ∙ ap (λ (t : List ℤ). modesMarked T (sensors .result) (rowsIn modeWidth t) (s .args .delays .now)) (sym d)
-    ∙ sym (listing-marked T (sensors .result) own v (s .args .delays .now))
+    let table = s .args .delays .now in
+    let counted : (T : Tables) → T .ports ≡ s .args .ports .now → T .modes ≡ s .args .modes .now → T .invocations ≡ s .args .invocations .now
+    → T .updates ≡ s .args .updates .now → T .switches ≡ s .args .switches .now
+    → c .before .loop .delays ≡ modesMarked T (length (sensorRows (T .ports) (λ p. p))) (modeCount T) table =
+    λ T p d e f g.
+        walked-all _ _ _ _ _ _ _ _ (c .loop-test .left) (c .before .loop .inv T d e f g) .0
+        ∙ (λ i. modesMarked T ((c .before .before .sensors .ensures ∙ ap (λ (t : List ℤ). length (sensorRows t (λ p. p))) (sym p)) i) (rowsIn modeWidth (sym d i)) table) in
+    (counted, λ T p d e f g v. counted T p d e f g ∙ sym (listing-marked T _ (ap length (sym (sensors-rows T))) v table))
 
 pub fill-spec : {M : Type 1} → statement M
 fill-spec =

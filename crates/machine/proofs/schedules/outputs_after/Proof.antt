@@ -1,8 +1,8 @@
 -- `machine::schedules::outputs_after` meets its contract: a task with one tick left completes. Assumes nothing.
 use mathlib.Core.Path.{sym, _∙_}
 use borrow.Author.Needs.{needs}
-use Rattle.program.specs.Program.{programOf}
-use Rattle.machine.proofs.Completing.{completes, outputs-same}
+use borrow.Author.Tests.{eq-eqb, ne-eqb}
+use Rattle.machine.specs.Schedules.{outputsBy}
 use Rattle.machine.proofs.schedules.outputs_after.Statement.{statement}
 use Rattle.machine.proofs.schedules.outputs_after.Tie as tie
 
@@ -16,15 +16,10 @@ outputs-taken-requires : tie.Need-outputs-taken-requires
 outputs-taken-requires c κs = search needs
 
 returns : tie.Need-returns
-returns c T e f l =
-    let a = c .before .before .before .before .before .before .args in
-    c .outputs-taken .ensures T e f
-    ∙ completes T (a .results .now) (a .s) (a .t .0) l (sym (c .before .before .left-of .ensures) ∙ c .before .if1 .taken)
+returns c T e f = c .outputs-taken .ensures T e f ∙ sym (rw (eq-eqb _ 1 (sym (c .before .before .left-of .ensures) ∙ c .before .if1 .taken), outputsBy))
 
 returns-2 : tie.Need-returns-2
-returns-2 c T e f l =
-    let a = c .before .before .before .before .before .args in
-    sym (outputs-same (programOf T) (a .results .now) (a .s) (a .t .0) (λ q. c .if1 .left (c .before .left-of .ensures ∙ q)))
+returns-2 c T e f = sym (rw (ne-eqb _ 1 (λ q. c .if1 .left (c .before .left-of .ensures ∙ q)), outputsBy))
 
 pub outputs-after-spec : {M : Type 1} → statement M
 outputs-after-spec =

@@ -5,6 +5,7 @@ use native.Mathlib.Omega.{arith}
 use borrow.Author.Needs.{needs}
 use borrow.Author.Tests.{eqb-true, eqb-false}
 use Rattle.program.specs.Program.{programOf}
+use Rattle.machine.proofs.Completing.{outputs-declared}
 use Rattle.machine.proofs.Ticking.{job-declared, tick-collides, tick-rests, tick-runs}
 use Rattle.machine.proofs.schedules.tick_all.Statement.{statement}
 use Rattle.machine.proofs.schedules.tick_all.Tie as tie
@@ -40,7 +41,7 @@ returns-2 c T e f r =
     let n = eqb-true (t .result .running .count) 1 (w .0 .taken) in
     tick-runs (a .rows .now) (a .s) (t .result) q (programOf T) (a .results .now) (left .result) (came .outputs) (c .tick-passed .result)
     (left .ensures) (c .tick-passed .ensures) n
-    (w .2 ∙ w .1 .ensures T e f (job-declared (a .rows .now) (a .s) (t .result) q T r n)))
+    (w .2 ∙ w .1 .ensures T e f ∙ outputs-declared T (a .results .now) (a .s) _ (job-declared (a .rows .now) (a .s) (t .result) q T r n)))
     (λ w.
     let n = eqb-false (t .result .running .count) 1 (w .0 .left) in
     tick-rests (a .rows .now) (a .s) (t .result) q (programOf T) (a .results .now) (left .result) (came .outputs) (c .tick-passed .result)

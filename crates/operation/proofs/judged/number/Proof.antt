@@ -63,7 +63,7 @@ joined-told : (c : tie.After-refused) → c .refused .result ≡ joinedBad (pass
 joined-told c =
     let L = passed (c .before) in
     let a = lent-none (L .tables) (advance-shaped L (shaped (c .before .before .before) (L .tables .start))) (none (c .before)) in
-    c .refused .ensures (L .tables) refl refl refl refl refl refl (a .0) (a .1)
+    c .refused .ensures .1 (L .tables) refl refl refl refl refl refl (a .0) (a .1)
 
 -- it did not apply: 21 decides
 left-over : (c : tie.Else3) → advanceVerdict (passed (c .before .before)) ≡ orElse (stateBad (passed (c .before .before))) 21 0

@@ -1,15 +1,15 @@
--- `suppliers::joined::refused` meets its contract: the table that is filled says the delays of the listing, and the search against it
--- says whether some row is wrong. Assumes nothing.
+-- `suppliers::joined::refused` meets its contract: the search against the table that is filled says whether some row is wrong. Assumes nothing.
 use Prim.Native.Nat.{ℕ}
-use mathlib.Core.Path.{refl, sym, ap₂, subst}
+use mathlib.Core.Path.{_≡_, refl, ap, ap₂, _∙_}
 use mathlib.Core.Bool.{Bool, _||_}
 use mathlib.Core.List.{List}
+use lib.Dec.{ltb}
 use borrow.Author.Needs.{needs}
 use Rattle.cells.proofs.Rows.{test-rows}
-use Rattle.code.specs.Compile.{listingOf}
-use Rattle.runs.specs.Schedule.{scheduleWidth}
-use Rattle.suppliers.specs.Schedule.{Tabled, rowWrong, rowsBad, joinedBad}
-use Rattle.suppliers.proofs.Delays.{table-says}
+use Rattle.program.specs.Tables.{Tables}
+use Rattle.runs.specs.Schedule.{scheduleWidth, scheduleCount}
+use Rattle.suppliers.specs.Delays.{countedDelays, rowWrongBy, joinedBadBy}
+use Rattle.suppliers.proofs.Delays.{joined-counted}
 use Rattle.suppliers.proofs.joined.refused.Statement.{statement}
 use Rattle.suppliers.proofs.joined.refused.Tie as tie
 
@@ -29,14 +29,19 @@ some-long-requires : tie.Need-some-long-requires
 some-long-requires c κs = search needs
 
 returns : tie.Need-returns
-unfolding rowsBad joinedBad
-returns c T e f g h i j v l =
+unfolding joinedBadBy
+returns c =
     let filled = c .before .before .before .before in
-    let S = filled .before .before .args .rows .now in
-    ap₂ (λ (wrong long : Bool). wrong || long)
-    (test-rows (rowWrong T (listingOf T) S) scheduleWidth {t = S} refl
-    (c .before .first-wrong-row .ensures T f (subst (λ (t : List ℕ). Tabled T t) (sym (filled .fill .ensures T e g h i j v)) (table-says T v l))))
-    (c .some-long .ensures)
+    let s = filled .before .before in
+    let S = s .args .rows .now in
+    let counted : (T : Tables) → T .ports ≡ s .args .ports .now → T .tasks ≡ s .args .tasks .now → T .modes ≡ s .args .modes .now
+    → T .invocations ≡ s .args .invocations .now → T .updates ≡ s .args .updates .now → T .switches ≡ s .args .switches .now
+    → (ltb (c .before .first-wrong-row .result) (scheduleCount S) || c .some-long .result) ≡ joinedBadBy T (countedDelays T) S =
+    λ T e f g h i j.
+        ap₂ (λ (wrong long : Bool). wrong || long)
+        (test-rows (rowWrongBy T _ S) scheduleWidth {t = S} refl (c .before .first-wrong-row .ensures T f)) (c .some-long .ensures)
+        ∙ ap (λ (t : List ℕ). joinedBadBy T t S) (filled .fill .ensures .0 T e g h i j) in
+    (counted, λ T e f g h i j v l. counted T e f g h i j ∙ joined-counted T v l S)
 
 pub refused-spec : {M : Type 1} → statement M
 refused-spec =

@@ -1,9 +1,10 @@
--- `suppliers::parts::refused` meets its contract: the table that is filled says the delays of the listing. Assumes nothing.
-use mathlib.Core.Path.{sym, subst}
+-- `suppliers::parts::refused` meets its contract: the rows are held against the table that is filled. Assumes nothing.
+use mathlib.Core.Path.{_≡_, ap, _∙_}
 use mathlib.Core.List.{List}
 use Prim.Native.Nat.{ℕ}
-use Rattle.suppliers.specs.Schedule.{Tabled}
-use Rattle.suppliers.proofs.Delays.{table-says}
+use Rattle.program.specs.Tables.{Tables}
+use Rattle.suppliers.specs.Delays.{countedDelays, partBadBy}
+use Rattle.suppliers.proofs.Delays.{part-counted}
 use borrow.Author.Needs.{needs}
 use Rattle.suppliers.proofs.parts.refused.Statement.{statement}
 use Rattle.suppliers.proofs.parts.refused.Tie as tie
@@ -21,9 +22,15 @@ part-bad-requires : tie.Need-part-bad-requires
 part-bad-requires c κs = search needs
 
 returns : tie.Need-returns
-returns c T e f g h i j v l =
-    c .part-bad .ensures T f
-    (subst (λ (t : List ℕ). Tabled T t) (sym (c .before .before .before .fill .ensures T e g h i j v)) (table-says T v l))
+returns c =
+    let s = c .before .before .before .before .before in
+    let counted : (T : Tables) → T .ports ≡ s .args .ports .now → T .tasks ≡ s .args .tasks .now → T .modes ≡ s .args .modes .now
+    → T .invocations ≡ s .args .invocations .now → T .updates ≡ s .args .updates .now → T .switches ≡ s .args .switches .now
+    → c .part-bad .result ≡ partBadBy T (countedDelays T) (s .args .rows .now) (s .args .supplier) =
+    λ T e f g h i j.
+        c .part-bad .ensures T f
+        ∙ ap (λ (t : List ℕ). partBadBy T t (s .args .rows .now) (s .args .supplier)) (c .before .before .before .fill .ensures .0 T e g h i j) in
+    (counted, λ T e f g h i j v l. counted T e f g h i j ∙ part-counted T v l (s .args .rows .now) (s .args .supplier))
 
 pub refused-spec : {M : Type 1} → statement M
 refused-spec =

@@ -3,27 +3,26 @@ use Prim.Native.Nat.{_-_}
 use mathlib.Core.Path.{_≡_, sym, _∙_}
 use Rattle.theory.proofs.Search.{Passed, passed-none, passed-more, first-found, first-none}
 use Rattle.program.specs.Tables.{Tables}
-use Rattle.code.specs.Compile.{listingOf}
 use Rattle.runs.specs.Schedule.{scheduleCount}
-use Rattle.suppliers.specs.Schedule.{Tabled, rowWrong}
+use Rattle.suppliers.specs.Delays.{rowWrongBy}
 use borrow.Author.Needs.{needs}
 use Rattle.suppliers.proofs.schedule_rows.first_wrong_row.Statement.{statement}
 use Rattle.suppliers.proofs.schedule_rows.first_wrong_row.Tie as tie
 
 abbrev Inv-loop : tie.InvT-loop
-Inv-loop tasks delays rows n i₀ i = (T : Tables) → T .tasks ≡ tasks → Tabled T delays → Passed (rowWrong T (listingOf T) rows) (scheduleCount rows) i
+Inv-loop tasks delays rows n i₀ i = (T : Tables) → T .tasks ≡ tasks → Passed (rowWrongBy T delays rows) (scheduleCount rows) i
 
 abbrev μ-loop : tie.MeasureT-loop
 μ-loop tasks delays rows n i₀ i = scheduleCount rows - i
 
 loop-holds : tie.Need-loop-holds Inv-loop μ-loop
-loop-holds c T e d = passed-none _ _
+loop-holds c T e = passed-none _ _
 
 row-wrong-requires : tie.Need-row-wrong-requires Inv-loop μ-loop
 row-wrong-requires c κs = search needs
 
 returns : tie.Need-returns Inv-loop μ-loop
-returns c T e d = first-found _ _ _ (c .before .before .before .loop .inv T e d) (c .before .before .loop-test .taken) (sym (c .before .row-wrong .ensures T e d) ∙ c .if1 .taken)
+returns c T e = first-found _ _ _ (c .before .before .before .loop .inv T e) (c .before .before .loop-test .taken) (sym (c .before .row-wrong .ensures T e) ∙ c .if1 .taken)
 
 add-i : tie.Need-add-i Inv-loop μ-loop
 add-i c = search needs
@@ -32,10 +31,10 @@ loop-less : tie.Need-loop-less Inv-loop μ-loop
 loop-less c = search needs
 
 loop-again : tie.Need-loop-again Inv-loop μ-loop
-loop-again c T e d = passed-more _ _ _ (c .before .before .before .loop .inv T e d) (c .before .before .loop-test .taken) (sym (c .before .row-wrong .ensures T e d) ∙ c .if1 .left)
+loop-again c T e = passed-more _ _ _ (c .before .before .before .loop .inv T e) (c .before .before .loop-test .taken) (sym (c .before .row-wrong .ensures T e) ∙ c .if1 .left)
 
 returns-2 : tie.Need-returns-2 Inv-loop μ-loop
-returns-2 c T e d = first-none _ _ _ (c .before .loop .inv T e d) (c .loop-test .left)
+returns-2 c T e = first-none _ _ _ (c .before .loop .inv T e) (c .loop-test .left)
 
 pub first-wrong-row-spec : {M : Type 1} → statement M
 first-wrong-row-spec =

@@ -4,9 +4,8 @@ use mathlib.Core.Bool.{Bool, not, _||_}
 use lib.Dec.{eqb, leb}
 use Rattle.cells.specs.Limits.{suppliers}
 use Rattle.cells.proofs.Rows.{test-rows}
-use Rattle.code.specs.Compile.{listingOf}
 use Rattle.runs.specs.Schedule.{scheduleWidth, rowSupplier}
-use Rattle.suppliers.specs.Schedule.{rowWrong, rowsBad, partBad}
+use Rattle.suppliers.specs.Delays.{rowWrongBy, partBadBy}
 use borrow.Author.Needs.{needs}
 use Rattle.suppliers.proofs.schedule_rows.part_bad.Statement.{statement}
 use Rattle.suppliers.proofs.schedule_rows.part_bad.Tie as tie
@@ -18,11 +17,11 @@ first-foreign-row-requires : tie.Need-first-foreign-row-requires
 first-foreign-row-requires c κs = search needs
 
 returns : tie.Need-returns
-unfolding rowsBad partBad
-returns c T e d =
+unfolding partBadBy
+returns c T e =
     let a = c .before .before .before .args in
     ap₂ (λ (wrong foreign : Bool). wrong || foreign || leb suppliers (a .supplier))
-    (test-rows (rowWrong T (listingOf T) (a .rows .now)) scheduleWidth {t = a .rows .now} refl (c .before .first-wrong-row .ensures T e d))
+    (test-rows (rowWrongBy T (a .delays .now) (a .rows .now)) scheduleWidth {t = a .rows .now} refl (c .before .first-wrong-row .ensures T e))
     (test-rows (λ i. not (eqb (rowSupplier (a .rows .now) i) (a .supplier))) scheduleWidth {t = a .rows .now} refl (c .first-foreign-row .ensures))
 
 pub part-bad-spec : {M : Type 1} → statement M

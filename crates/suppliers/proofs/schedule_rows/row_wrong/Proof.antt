@@ -1,6 +1,6 @@
 -- `suppliers::schedule_rows::row_wrong` meets its contract: each part of the rule is asked of the row. Assumes nothing.
 use mathlib.Core.Path.{refl}
-use Rattle.suppliers.specs.Schedule.{rowWrong}
+use Rattle.suppliers.specs.Delays.{rowWrongBy}
 use borrow.Author.Needs.{needs}
 use Rattle.suppliers.proofs.schedule_rows.row_wrong.Statement.{statement}
 use Rattle.suppliers.proofs.schedule_rows.row_wrong.Tie as tie
@@ -24,8 +24,8 @@ precedes-requires : tie.Need-precedes-requires
 precedes-requires c κs = search needs
 
 returns : tie.Need-returns
-unfolding rowWrong
-returns c T e d = simp (c .precedes .ensures, c .before .above .ensures, c .before .before .delay-fits .ensures, c .before .before .before .idle-fits .ensures, c .before .before .before .before .dispatch-fits .ensures T e, c .before .before .before .before .before .field .ensures, d) refl
+unfolding rowWrongBy
+returns c T e = simp (c .precedes .ensures, c .before .above .ensures, c .before .before .delay-fits .ensures, c .before .before .before .idle-fits .ensures, c .before .before .before .before .dispatch-fits .ensures T e, c .before .before .before .before .before .field .ensures) refl
 
 pub row-wrong-spec : {M : Type 1} → statement M
 row-wrong-spec =

@@ -1,12 +1,12 @@
 -- `text::listing::said` meets its contract: an arm for each number, nothing for the others. Assumes nothing.
-use Prim.Native.Nat.{_+_}
-use mathlib.Core.Path.{subst, _∙_}
+use Prim.Native.Nat.{ℕ, _+_}
+use mathlib.Core.Path.{_≡_, sym, ap, subst, _∙_}
 use borrow.Author.Needs.{needs}
-use Rattle.code.specs.Op.{call, schedule, jump, return}
+use Rattle.code.specs.Op.{call, schedule, jump, return, callNumber, scheduleNumber, ifNumber, jumpNumber, futureNumber, returnNumber, decode}
 use Rattle.text.specs.Line.{Appended}
 use Rattle.text.specs.Said.{saidOf}
 use Rattle.text.proofs.Lines.{appended-none}
-use Rattle.text.proofs.Said.{said-unused, said-at, said-unknown}
+use Rattle.text.proofs.Said.{said-unused, said-unknown}
 use Rattle.text.proofs.listing.said.Statement.{statement}
 use Rattle.text.proofs.listing.said.Tie as tie
 
@@ -46,38 +46,44 @@ slice-aggregate-none c = search needs
 none-requires : tie.Need-none-requires
 none-requires c κs = search needs
 
+-- the instruction that the first word says
+known : (c : tie.Start) (n : ℕ) → c .args .number ≡ n → saidOf (decode n (c .args .first) (c .args .second)) ≡ saidOf (decode (c .args .number) (c .args .first) (c .args .second))
+known c n e = ap (λ (k : ℕ). saidOf (decode k (c .args .first) (c .args .second))) (sym e)
+
 returns : tie.Need-returns
 returns c =
-    let a = c .before .before .before .args in
-    subst (Appended _ _) (said-unused (a .second) (call (a .first)) ∙ said-at (a .number) 0 _ _ (c .before .before .match .keys1)) (c .one .ensures)
+    let s = c .before .before .before in
+    subst (Appended _ _) (said-unused (s .args .second) (call (s .args .first)) ∙ known s callNumber (c .before .before .match .keys1)) (c .one .ensures)
 
 returns-2 : tie.Need-returns-2
 returns-2 c =
-    let a = c .before .before .before .args in
-    subst (Appended _ _) (said-unused (a .second) (schedule (a .first)) ∙ said-at (a .number) 1 _ _ (c .before .before .match .keys2)) (c .one2 .ensures)
+    let s = c .before .before .before in
+    subst (Appended _ _) (said-unused (s .args .second) (schedule (s .args .first)) ∙ known s scheduleNumber (c .before .before .match .keys2)) (c .one2 .ensures)
 
 returns-3 : tie.Need-returns-3
 unfolding saidOf
-returns-3 c = subst (Appended _ _) (said-at _ 2 _ _ (c .before .before .match .keys3)) (c .two .ensures)
+returns-3 c = subst (Appended _ _) (known (c .before .before .before) ifNumber (c .before .before .match .keys3)) (c .two .ensures)
 
 returns-4 : tie.Need-returns-4
 returns-4 c =
-    let a = c .before .before .before .args in
-    subst (Appended _ _) (said-unused (a .second) (jump (a .first)) ∙ said-at (a .number) 3 _ _ (c .before .before .match .keys4)) (c .one3 .ensures)
+    let s = c .before .before .before in
+    subst (Appended _ _) (said-unused (s .args .second) (jump (s .args .first)) ∙ known s jumpNumber (c .before .before .match .keys4)) (c .one3 .ensures)
 
 returns-5 : tie.Need-returns-5
 unfolding saidOf
-returns-5 c = subst (Appended _ _) (said-at _ 4 _ _ (c .before .before .match .keys5)) (c .two2 .ensures)
+returns-5 c = subst (Appended _ _) (known (c .before .before .before) futureNumber (c .before .before .match .keys5)) (c .two2 .ensures)
 
 returns-6 : tie.Need-returns-6
 returns-6 c =
-    let a = c .before .before .before .args in
-    subst (Appended _ _) (said-unused (a .first + a .second) return ∙ said-at (a .number) 5 _ _ (c .before .before .match .keys6)) (c .none .ensures)
+    let s = c .before .before .before in
+    subst (Appended _ _) (said-unused (s .args .first + s .args .second) return ∙ known s returnNumber (c .before .before .match .keys6)) (c .none .ensures)
 
 returns-7 : tie.Need-returns-7
 returns-7 c =
+    let a = c .before .args in
     let r = c .match .rest in
-    subst (Appended _ _) (said-unknown (c .before .args .number) _ _ (r .0 .0 .0 .0 .0 .1) (r .0 .0 .0 .0 .1) (r .0 .0 .0 .1) (r .0 .0 .1) (r .0 .1) (r .1))
+    subst (Appended _ _)
+    (said-unknown (a .number) (a .first) (a .second) (r .0 .0 .0 .0 .0 .1) (r .0 .0 .0 .0 .1) (r .0 .0 .0 .1) (r .0 .0 .1) (r .0 .1) (r .1))
     (appended-none _)
 
 pub said-spec : {M : Type 1} → statement M
