@@ -18,11 +18,11 @@ use Rattle.machine.specs.Uses.{lending, Agrees}
 abbrev pub UsedOnly : Type 0
 UsedOnly = (L : Advance) (X : Lent) → Agrees L X → advanceAnswer L ≡ advanceAnswer (lending L X)
 
--- the same advance with other readings and times, of the same lengths
+-- the same advance with other readings and times
 abbrev pub otherwise : Advance → List ℤ → List ℤ → Advance
 otherwise L readings times = lending L (record { readings = readings; results = L .lent .results; times = times })
 
--- while a tick of the unit remains, readings and times do not matter
+-- while a tick of the unit remains, no reading and no time matters
 abbrev pub SameWithin : Type 0
 SameWithin =
     (L : Advance) → 1 ≤ L .state .remaining

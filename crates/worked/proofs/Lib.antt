@@ -7,3 +7,5 @@ pub mod Listings
 pub mod Walk
 pub mod Advances
 pub mod Composed
+pub mod Pair
+pub mod Uses

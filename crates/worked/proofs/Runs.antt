@@ -15,7 +15,7 @@ use Rattle.worked.specs.Computed.{computed}
 use Rattle.worked.specs.Systems.{F-system, monitor-system, mix, readings, gaps, times, runsAsGiotto}
 
 -- a claim of every supplier, from that of each
-below-eight : (P : ℕ → Type 0) → P 0 → P 1 → P 2 → P 3 → P 4 → P 5 → P 6 → P 7 → (s : ℕ) → s < suppliers → P s
+pub below-eight : (P : ℕ → Type 0) → P 0 → P 1 → P 2 → P 3 → P 4 → P 5 → P 6 → P 7 → (s : ℕ) → s < suppliers → P s
 below-eight P a b c d e f g h zero l = a
 below-eight P a b c d e f g h (suc zero) l = b
 below-eight P a b c d e f g h (suc (suc zero)) l = c

@@ -1,6 +1,6 @@
--- Two systems that run: F, and a monitor of two modes whose switches are taken. What a run shows, tick by tick.
--- Assumes nothing.
-use Prim.Native.Nat.{ℕ, zero, suc, _+_, _*_}
+-- Three systems that run: F; a monitor of two modes whose switches are taken; a pair of suppliers that share one round. What a run shows,
+-- tick by tick. Assumes nothing.
+use Prim.Native.Nat.{ℕ, zero, suc, _+_, _*_, _-_, _/_, _%_}
 use mathlib.Core.Bool.{Bool, true, false}
 use mathlib.Core.List.{List, [], _∷_, _++_, map}
 use lib.Dec.{eqb}
@@ -12,11 +12,14 @@ use Rattle.cells.specs.Reading.{noReading}
 use Rattle.program.specs.Tables.{Tables, tables, sensor, actuator, input, output}
 use Rattle.program.specs.Program.{programOf}
 use Rattle.suppliers.specs.Supplier.{Asked}
+use Rattle.code.specs.Op.{instructions}
 use Rattle.giotto.specs.Instant.{Configuration, Function}
 use Rattle.giotto.specs.Execution.{initial, pass}
 use Rattle.machine.specs.declared.State.{State}
-use Rattle.machine.specs.Advance.{freshAnswer}
-use Rattle.demands.specs.Composed.{System, advanced}
+use Rattle.machine.specs.Instant.{Outcome, ok, stop}
+use Rattle.machine.specs.Schedules.{Who, nobody, running}
+use Rattle.machine.specs.Advance.{freshAnswer, ready}
+use Rattle.demands.specs.Composed.{System, joined, code, advanced}
 use Rattle.demands.specs.Supplied.{lentTo}
 use Rattle.worked.specs.Programs.{numbers, ports, alwaysRow, intervalRow, F, schedule, window}
 
@@ -67,6 +70,34 @@ monitor-system = record {
   slice = room;
 }
 
+-- The pair. Ports: 0 a sensor, 1 an actuator, 2 and 3 the tasks' inputs, 4 and 5 their outputs.
+-- One mode, period 8, two units: task 0 of supplier 0 twice, worst case 2; task 1 of supplier 1 once, worst case 4.
+abbrev pub pair : Tables
+pair =
+    tables
+    (ports 1 sensor ++ (ports 1 actuator ++ (ports 2 input ++ ports 2 output)))
+    (numbers (0 ∷ 2 ∷ 1 ∷ 4 ∷ []))
+    (numbers (0 ∷ 2 ∷ 0 ∷ 4 ∷ 1 ∷ 3 ∷ 1 ∷ 5 ∷ []))
+    (alwaysRow ++ (alwaysRow ++ alwaysRow))
+    (numbers (0 ∷ 0 ∷ 2 ∷ 1 ∷ 4 ∷ 3 ∷ 2 ∷ 5 ∷ 1 ∷ []))
+    (numbers (8 ∷ []))
+    (numbers (0 ∷ 4 ∷ 0 ∷ 5 ∷ []))
+    (numbers (0 ∷ 2 ∷ 0 ∷ 0 ∷ 0 ∷ 1 ∷ 1 ∷ 1 ∷ []))
+    (numbers (0 ∷ 1 ∷ 2 ∷ []))
+    []
+    (pos 0)
+
+-- In each unit supplier 0 has the first two ticks and supplier 1 the other two: it idles till then, and what is left of its task at the
+-- unit's end goes on in the second block. The blocks are at 9 and 15.
+abbrev pub pair-system : System
+pair-system = record {
+  tables = pair;
+  windows = numbers (0 ∷ 0 ∷ 0 ∷ 2 ∷ 1 ∷ 0 ∷ 2 ∷ 4 ∷ 0 ∷ 0 ∷ 4 ∷ 6 ∷ 1 ∷ 0 ∷ 6 ∷ 8 ∷ []);
+  parts = partsOf (numbers (0 ∷ 9 ∷ 0 ∷ 0 ∷ 2 ∷ 0 ∷ 15 ∷ 0 ∷ 0 ∷ 2 ∷ []))
+      (numbers (1 ∷ 9 ∷ 1 ∷ 0 ∷ 2 ∷ 1 ∷ 9 ∷ 0 ∷ 1 ∷ 4 ∷ 1 ∷ 15 ∷ 1 ∷ 0 ∷ 2 ∷ 1 ∷ 15 ∷ 0 ∷ 1 ∷ 4 ∷ []));
+  slice = room;
+}
+
 -- a task function that tells tasks, ports and inputs apart
 abbrev pub weigh : List ℤ → ℕ
 weigh [] = 0
@@ -75,18 +106,24 @@ weigh (x ∷ xs) = natAbs x + 2 * weigh xs
 abbrev pub mix : Function
 mix t values p = pos (100 * t + 10 * p + weigh values)
 
--- readings and times that change from tick to tick; every third round of the monitor has no reading
+-- readings that change from tick to tick
 abbrev pub readings : ℕ → List ℤ
 readings n = pos n ∷ replicate 63 (pos 0)
 
+-- the same, but missing at ticks 4 and 6
 abbrev pub gaps : ℕ → List ℤ
 gaps n = elim (eqb n 4) [
   | true ↦ noReading ∷ replicate 63 (pos 0)
   | false ↦ elim (eqb n 6) [ true ↦ noReading ∷ replicate 63 (pos 0) | false ↦ readings n ]
 ]
 
+-- execution times by task, the same in every tick
 abbrev pub times : List ℕ → ℕ → List ℤ
 times ts n = map pos ts ++ replicate 30 (pos 0)
+
+-- other ones from tick to tick, for the pair: the releases of task 0 get 1, 2, 1, 2, .., those of task 1 get 4, 3, 2, 1, 4, ..
+abbrev pub changing : ℕ → List ℤ
+changing n = pos (1 + (n + n / 4) % 2) ∷ pos (4 - (n + n / 8) % 4) ∷ replicate 30 (pos 0)
 
 -- two lists of values are equal
 abbrev pub same : List ℤ → List ℤ → Bool
@@ -110,3 +147,19 @@ agrees Y F rs ts (suc k) n s C =
 -- from a fresh state
 abbrev pub runsAsGiotto : System → Function → (ℕ → List ℤ) → (ℕ → List ℤ) → ℕ → Bool
 runsAsGiotto Y F rs ts k = agrees Y F rs ts k 0 (freshAnswer (Y .tables) .state) (initial (programOf (Y .tables)) F)
+
+-- who runs in the tick after its E part came to this
+abbrev pub runningIn : System → Outcome → Who
+runningIn Y (ok u) = running (joined Y) u
+runningIn Y (stop n) = nobody
+
+-- in each of k ticks from tick n on, the machine in state s
+abbrev pub whoFrom : System → Function → (ℕ → List ℤ) → (ℕ → List ℤ) → ℕ → ℕ → State → List Who
+whoFrom Y F rs ts zero n s = []
+whoFrom Y F rs ts (suc k) n s =
+    runningIn Y (ready (programOf (Y .tables)) (instructions (code Y)) (rs n) (ts n) s)
+    ∷ whoFrom Y F rs ts k (suc n) (advanced Y (lentTo Y F rs ts n s) s .state)
+
+-- from a fresh state
+abbrev pub whoEach : System → Function → (ℕ → List ℤ) → (ℕ → List ℤ) → ℕ → List Who
+whoEach Y F rs ts k = whoFrom Y F rs ts k 0 (freshAnswer (Y .tables) .state)
