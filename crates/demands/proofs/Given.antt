@@ -29,33 +29,35 @@ use Rattle.machine.specs.Advance.{Lent}
 use Rattle.composed.specs.Suited.{Suited}
 use Rattle.composed.proofs.Given.{given-suits}
 use Rattle.demands.specs.Composed.{System, Accepted, joined, stateAt, configurationAt, Fair}
-use Rattle.demands.specs.Given.{Given, GivenRight, resultsOf, lentBy, GivenMet, ExecutionRight}
+use Rattle.demands.specs.Given.{Given, GivenFair, GivenRight, resultsOf, lentBy, GivenMet, ExecutionRight}
 use Rattle.demands.proofs.Sound.{accepted-sound}
 use Rattle.demands.proofs.Composed.{is-compiled, related-always, composed-run}
 
 module _ (Y : System) (a : Accepted Y) (F : Function) (lents : ℕ → Lent) where
   -- a tick that is lent what is asked for is fair, where those before it are
-  given-fair : (n : ℕ) → ((k : ℕ) → k < n → Fair Y F lents k) → Given (programOf (Y .tables)) F lents n → Fair Y F lents n
-  given-fair n f g =
+  fair-next : (n : ℕ) → ((k : ℕ) → k < n → Fair Y F lents k) → Given (programOf (Y .tables)) F lents n → Fair Y F lents n
+  fair-next n f g =
       subst (λ (ws : List ℕ). Suited (Y .tables) ws (joined Y) F n (configurationAt Y F lents n) (stateAt Y lents n) (lents n))
       (sym (is-compiled Y a F lents))
       (given-suits (Y .tables) (Y .windows) (joined Y) F n (configurationAt Y F lents n) (stateAt Y lents n) (lents n)
       (accepted-sound Y a) (related-always Y a F lents n f) (g .readings-length) (g .results-length) (g .times-length) (g .times) (g .results))
 
   -- so all ticks below n are
-  all-fair : (n : ℕ) → ((k : ℕ) → k < n → Given (programOf (Y .tables)) F lents k) → (k : ℕ) → k < n → Fair Y F lents k
-  all-fair zero g = λ k l. absurd (omega arith)
-  all-fair (suc n) g = λ k l. go k l (decLt k n) (all-fair n (λ j b. g j (omega arith)))
+  fair-below : (n : ℕ) → ((k : ℕ) → k < n → Given (programOf (Y .tables)) F lents k) → (k : ℕ) → k < n → Fair Y F lents k
+  fair-below zero g = λ k l. absurd (omega arith)
+  fair-below (suc n) g = λ k l. go k l (decLt k n) (fair-below n (λ j b. g j (omega arith)))
     where
       go : (k : ℕ) → k < suc n → Dec (k < n) → ((j : ℕ) → j < n → Fair Y F lents j) → Fair Y F lents k
       go k l (yes b) f = f k b
       go k l (no b) f =
-          let e : n ≡ k = omega arith in subst (Fair Y F lents) e (given-fair n f (g n (omega arith)))
+          let e : n ≡ k = omega arith in subst (Fair Y F lents) e (fair-next n f (g n (omega arith)))
 
--- every tick is right
+-- what is lent as asked for meets the premises of the composed run, so every tick is right
+pub given-fair : GivenFair
+given-fair Y a F lents n g = fair-below Y a F lents (suc n) (λ k l. g k (omega arith)) n (omega arith)
+
 pub given-right : GivenRight
-given-right Y a F lents n g =
-    composed-run Y a .1 F lents n (λ k l. all-fair Y a F lents (suc n) (λ j b. g j (omega arith)) k (omega arith))
+given-right Y a F lents n g = composed-run Y a .1 F lents n (λ k l. given-fair Y a F lents k (λ j b. g j (omega arith)))
 
 -- ports that take values: p gets x exactly where it is one of them, and x its value
 takes-exactly : (value : ℕ → ℤ) (ps : List ℕ) (p : ℕ) (x : ℤ) → Wrote (takes value ps) p x ↔ ((member p ps ≡ true) × (x ≡ value p))

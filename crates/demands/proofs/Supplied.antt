@@ -34,6 +34,7 @@ use Rattle.machine.specs.Advance.{ready}
 use Rattle.machine.specs.declared.State.{State}
 use Rattle.demands.specs.Composed.{System, joined, code, advanced, stateAt, Fair}
 use Rattle.demands.specs.Supplied.{givenBy, givenIn, lentTo, history, supplied, worstTimes, SuppliedRight}
+use Rattle.demands.specs.Given.{Fed}
 use Rattle.demands.proofs.Composed.{composed-run}
 
 module _ (Y : System) (F : Function) (readings times : ℕ → List ℤ) where
@@ -97,15 +98,22 @@ worst-in-range T a t l =
     let f = accepted-fields T a .tasks t l .worst .0 in
     rw (e, task-row T t l) (f, omega arith)
 
--- so with worst-case times every tick is fair, for any task function and any readings
+-- so worst-case times will do, with any task function and any readings
+pub worst-fed : (T : Tables) → programVerdict T ≡ 0 → (F : Function) (readings : ℕ → List ℤ) → ((n : ℕ) → length (readings n) ≡ maxPorts)
+    → Fed (programOf T) F readings (λ n. worstTimes (programOf T))
+worst-fed T a F readings l = record {
+  readings-length = l;
+  times-length = λ n. each-length (λ t. pos (task (programOf T) t .worst)) maxTasks 0;
+  in-range = λ n t m. worst-in-range T a t (released-declared T (accepted-fields T a) F readings n t m);
+}
+
+-- and with them every tick is fair
 pub worst-case-fair : (Y : System) → windowsVerdict (record { tables = Y .tables; windows = Y .windows }) ≡ 0
     → (F : Function) (readings : ℕ → List ℤ) → ((n : ℕ) → length (readings n) ≡ maxPorts)
     → (n : ℕ) → Fair Y F (supplied Y F readings (λ k. worstTimes (programOf (Y .tables)))) n
 worst-case-fair Y w F readings rl =
-    let a = windows-accepted _ w in
-    premises-met Y F readings (λ k. worstTimes (programOf (Y .tables))) w rl
-    (λ n. each-length (λ t. pos (task (programOf (Y .tables)) t .worst)) maxTasks 0)
-    (λ n t m. worst-in-range (Y .tables) a t (released-declared (Y .tables) (accepted-fields (Y .tables) a) F readings n t m))
+    let f = worst-fed (Y .tables) (windows-accepted _ w) F readings rl in
+    premises-met Y F readings (λ k. worstTimes (programOf (Y .tables))) w (f .readings-length) (f .times-length) (f .in-range)
 
 -- every accepted system runs as Giotto's execution
 pub supplied-right : SuppliedRight

@@ -17,7 +17,7 @@ use Rattle.rules.specs.Verdict.{programVerdict}
 use Rattle.giotto.specs.Instant.{Configuration, Function, results}
 use Rattle.giotto.specs.Execution.{execution, releasedAt, portsAt}
 use Rattle.machine.specs.Advance.{Lent}
-use Rattle.demands.specs.Composed.{System, Accepted, Right}
+use Rattle.demands.specs.Composed.{System, Accepted, Fair, Right}
 
 -- What is asked of tick n: whole slices; the time of a task that is released in it from 1 to its worst case; and for every task that is
 -- active in Giotto's configuration after the tick's instant, and each of its outputs, the result that F gives for the task's inputs
@@ -29,7 +29,12 @@ pub record Given (P : Program) (F : Function) (lents : ℕ → Lent) (n : ℕ) :
   pub results : (t p : ℕ) → execution P F (λ k. lents k .readings) (suc n) .active t ≡ true → member p (task P t .outputs) ≡ true
       → valueOf (lents n .results) p ≡ F t (valuesOf (portsAt P F (λ k. lents k .readings) n) (task P t .inputs)) p
 
--- So every tick is right, as long as all ticks up to it are lent what is asked for
+-- That is enough for the composed run: a tick is fair, and so it is right, as long as all ticks up to it are lent what is asked for
+abbrev pub GivenFair : Type 0
+GivenFair =
+    (Y : System) → Accepted Y → (F : Function) (lents : ℕ → Lent) (n : ℕ)
+    → ((k : ℕ) → k ≤ n → Given (programOf (Y .tables)) F lents k) → Fair Y F lents n
+
 abbrev pub GivenRight : Type 0
 GivenRight =
     (Y : System) → Accepted Y → (F : Function) (lents : ℕ → Lent) (n : ℕ)

@@ -74,7 +74,7 @@ F-same-values n =
     F-lent-early (λ k. refl) n (λ k l. F-fair k) (λ k l. F-early k)
 
 -- the monitor
-gaps-whole : (n : ℕ) → length (gaps n) ≡ maxPorts
+pub gaps-whole : (n : ℕ) → length (gaps n) ≡ maxPorts
 gaps-whole n = go (eqb n 4) (eqb n 6)
   where
     go : (a b : Bool)

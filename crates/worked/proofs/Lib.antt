@@ -9,3 +9,4 @@ pub mod Advances
 pub mod Composed
 pub mod Pair
 pub mod Uses
+pub mod Given

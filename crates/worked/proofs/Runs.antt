@@ -4,27 +4,18 @@ use Prim.Native.Nat.{ℕ, zero, suc, _<_}
 use mathlib.Core.Path.{_≡_, refl}
 use mathlib.Core.Bool.{true}
 use mathlib.Core.List.{[], _∷_}
+use mathlib.Core.Logic.{_⊎_, inl, inr}
 use native.Mathlib.Omega.{arith}
-use lib.IntN.{pos}
 use Rattle.cells.specs.Limits.{suppliers}
+use Rattle.program.specs.Tables.{taskCount, taskSupplier}
 use Rattle.program.specs.Program.{programOf}
 use Rattle.suppliers.specs.Supplier.{supplierVerdict}
 use Rattle.giotto.specs.Execution.{execution}
 use Rattle.demands.specs.Composed.{Accepted}
+use Rattle.demands.specs.Idle.{Idle, askedOf}
+use Rattle.demands.proofs.Idle.{accepted-of}
 use Rattle.worked.specs.Computed.{computed}
 use Rattle.worked.specs.Systems.{F-system, monitor-system, mix, readings, gaps, times, runsAsGiotto}
-
--- a claim of every supplier, from that of each
-pub below-eight : (P : ℕ → Type 0) → P 0 → P 1 → P 2 → P 3 → P 4 → P 5 → P 6 → P 7 → (s : ℕ) → s < suppliers → P s
-below-eight P a b c d e f g h zero l = a
-below-eight P a b c d e f g h (suc zero) l = b
-below-eight P a b c d e f g h (suc (suc zero)) l = c
-below-eight P a b c d e f g h (suc (suc (suc zero))) l = d
-below-eight P a b c d e f g h (suc (suc (suc (suc zero)))) l = e
-below-eight P a b c d e f g h (suc (suc (suc (suc (suc zero))))) l = f
-below-eight P a b c d e f g h (suc (suc (suc (suc (suc (suc zero)))))) l = g
-below-eight P a b c d e f g h (suc (suc (suc (suc (suc (suc (suc zero))))))) l = h
-below-eight P a b c d e f g h (suc (suc (suc (suc (suc (suc (suc (suc s)))))))) l = absurd (omega arith)
 
 -- F: 24 ticks of the machine are those of Giotto's execution, with the longest execution times and with the shortest
 F-runs : runsAsGiotto F-system mix readings (times (6 ∷ 2 ∷ [])) 24 ≡ true
@@ -49,11 +40,37 @@ monitor-returns : execution (programOf (monitor-system .tables)) mix gaps 9 .mod
 unfolding computed
 monitor-returns = refl
 
--- both systems are accepted: program and windows, and each supplier's code alone
+-- F's tasks are of supplier 0, the monitor's of suppliers 0 and 1
+F-owners : (s t : ℕ) → t < taskCount (F-system .tables) → taskSupplier (F-system .tables) t ≡ suc s → ⊥
+unfolding computed
+F-owners s zero l e = omega arith
+F-owners s (suc zero) l e = omega arith
+F-owners s (suc (suc t)) l e = omega arith
+
+monitor-owners : (s t : ℕ) → t < taskCount (monitor-system .tables) → taskSupplier (monitor-system .tables) t ≡ suc (suc s) → ⊥
+unfolding computed
+monitor-owners s zero l e = omega arith
+monitor-owners s (suc zero) l e = omega arith
+monitor-owners s (suc (suc t)) l e = omega arith
+
+-- these are accepted alone, and the others have nothing to do
+F-suppliers : (s : ℕ) → s < suppliers → Idle (askedOf F-system s) ⊎ (supplierVerdict (askedOf F-system s) .number ≡ 0)
+unfolding computed
+F-suppliers zero l = inr refl
+F-suppliers (suc zero) l = inl (record { no-rows = refl; no-tasks = F-owners 0 })
+F-suppliers (suc (suc s)) l = inl (record { no-rows = refl; no-tasks = F-owners (suc s) })
+
+monitor-suppliers : (s : ℕ) → s < suppliers → Idle (askedOf monitor-system s) ⊎ (supplierVerdict (askedOf monitor-system s) .number ≡ 0)
+unfolding computed
+monitor-suppliers zero l = inr refl
+monitor-suppliers (suc zero) l = inr refl
+monitor-suppliers (suc (suc s)) l = inl (record { no-rows = refl; no-tasks = monitor-owners s })
+
+-- so both systems are accepted
 pub F-accepted : Accepted F-system
 unfolding computed
-F-accepted = record { windows = refl; compiled = refl; suppliers = below-eight (λ s. supplierVerdict (record { tables = F-system .tables; windows = F-system .windows; part = F-system .parts s; supplier = pos s }) .number ≡ 0) refl refl refl refl refl refl refl refl }
+F-accepted = accepted-of F-system refl refl F-suppliers
 
 pub monitor-accepted : Accepted monitor-system
 unfolding computed
-monitor-accepted = record { windows = refl; compiled = refl; suppliers = below-eight (λ s. supplierVerdict (record { tables = monitor-system .tables; windows = monitor-system .windows; part = monitor-system .parts s; supplier = pos s }) .number ≡ 0) refl refl refl refl refl refl refl refl }
+monitor-accepted = accepted-of monitor-system refl refl monitor-suppliers
