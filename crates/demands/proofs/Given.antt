@@ -29,7 +29,7 @@ use Rattle.machine.specs.Advance.{Lent}
 use Rattle.composed.specs.Suited.{Suited}
 use Rattle.composed.proofs.Given.{given-suits}
 use Rattle.demands.specs.Composed.{System, Accepted, joined, stateAt, configurationAt, Fair}
-use Rattle.demands.specs.Given.{Given, GivenFair, GivenRight, resultsOf, lentBy, GivenMet, ExecutionRight}
+use Rattle.demands.specs.Given.{Given, GivenFair, GivenRight, gives, resultsOf, lentBy, GivenMet, ExecutionRight}
 use Rattle.demands.proofs.Sound.{accepted-sound}
 use Rattle.demands.proofs.Composed.{is-compiled, related-always, composed-run}
 
@@ -81,20 +81,16 @@ gives-exactly pass value outputs n p x =
       λ (t, l, e, m, q). parts .1 (rows .1 (t, l, e, takes-exactly (value t) (outputs t) p x .1 (m, q))),
     )
 
--- the results are these assignments, made to ports that all have 0
-abbrev putsOf : Program → Function → Configuration → List Put
-putsOf P F C = gather (λ t. takes (results P F (C .ports) t) (task P t .outputs)) (those (C .active) (λ t. t) maxTasks 0)
-
 -- so for an output of an active task the results have what the task gives: active tasks share no output
 given-at : (T : Tables) → programVerdict T ≡ 0 → (F : Function) (readings : ℕ → List ℤ) (n t p : ℕ)
     → let C = execution (programOf T) F readings (suc n) in
     C .active t ≡ true → member p (task (programOf T) t .outputs) ≡ true
     → valueOf (resultsOf (programOf T) F C) p ≡ results (programOf T) F (C .ports) t p
 given-at T a F readings n t p e m =
-    puts-at (pos 0) (putsOf P F C) (replicate maxPorts (pos 0)) p (value t p)
+    puts-at (pos 0) (gives P F C) (replicate maxPorts (pos 0)) p (value t p)
     (omega (arith, ports-few T (accepted-shaped T a), output-declared T t p m .0))
-    (gives p (value t p) .1 (t, few, e, m, refl))
-    (λ y w. one y (gives p y .0 w))
+    (exactly (value t p) .1 (t, few, e, m, refl))
+    (λ y w. one y (exactly y .0 w))
   where
     P : Program
     P = programOf T
@@ -108,9 +104,9 @@ given-at T a F readings n t p e m =
     few : t < maxTasks
     few = omega (arith, active-declared T a F readings (suc n) t e, tasks-few T (accepted-shaped T a))
 
-    gives : (p : ℕ) (x : ℤ) → Wrote (putsOf P F C) p x
+    exactly : (x : ℤ) → Wrote (gives P F C) p x
         ↔ ((t : ℕ) × (t < maxTasks) × (C .active t ≡ true) × (member p (task P t .outputs) ≡ true) × (x ≡ value t p))
-    gives p x = gives-exactly (C .active) value (λ t. task P t .outputs) maxTasks p x
+    exactly x = gives-exactly (C .active) value (λ t. task P t .outputs) maxTasks p x
 
     one : (y : ℤ) → (u : ℕ) × (u < maxTasks) × (C .active u ≡ true) × (member p (task P u .outputs) ≡ true) × (y ≡ value u p) → y ≡ value t p
     one y (u, l, d, o, q) = q ∙ ap (λ (u : ℕ). value u p) (active-one T a F readings (suc n) u t p d e o m)
@@ -119,10 +115,10 @@ given-at T a F readings n t p e m =
 pub given-met : GivenMet
 given-met T a F readings times f n = record {
   readings-length = f .readings-length n;
-  results-length = puts-length (putsOf (programOf T) F (execution (programOf T) F readings (suc n))) (replicate maxPorts (pos 0));
+  results-length = simp puts-length;
   times-length = f .times-length n;
   times = f .in-range n;
-  results = given-at T a F readings n;
+  results = λ t p e m. given-at T a F readings n t p e m;
 }
 
 -- so every accepted system runs as Giotto's execution

@@ -6,7 +6,7 @@ use mathlib.Core.Bool.{true}
 use mathlib.Core.List.{List}
 use lib.IntN.{ℤ, pos}
 use lib.ListN.{length, replicate}
-use Rattle.theory.specs.Lists.{those, gather, member, puts}
+use Rattle.theory.specs.Lists.{those, gather, member, Put, puts}
 use Rattle.cells.specs.Cell.{numAt}
 use Rattle.cells.specs.Limits.{maxPorts, maxTasks}
 use Rattle.program.specs.Tables.{Tables}
@@ -40,11 +40,13 @@ GivenRight =
     (Y : System) → Accepted Y → (F : Function) (lents : ℕ → Lent) (n : ℕ)
     → ((k : ℕ) → k ≤ n → Given (programOf (Y .tables)) F lents k) → Right Y F lents n
 
--- by port, what the active tasks give; 0 elsewhere
+-- the active tasks give results for their outputs
+abbrev pub gives : Program → Function → Configuration → List Put
+gives P F C = gather (λ t. takes (results P F (C .ports) t) (task P t .outputs)) (those (C .active) (λ t. t) maxTasks 0)
+
+-- by port, what is given; 0 elsewhere
 abbrev pub resultsOf : Program → Function → Configuration → List ℤ
-resultsOf P F C =
-    puts (gather (λ t. takes (results P F (C .ports) t) (task P t .outputs)) (those (C .active) (λ t. t) maxTasks 0))
-    (replicate maxPorts (pos 0))
+resultsOf P F C = puts (gives P F C) (replicate maxPorts (pos 0))
 
 -- what is lent to tick n, computed from Giotto's execution
 abbrev pub lentBy : Program → Function → (ℕ → List ℤ) → (ℕ → List ℤ) → ℕ → Lent
@@ -63,8 +65,8 @@ GivenMet =
     (T : Tables) → programVerdict T ≡ 0 → (F : Function) (readings times : ℕ → List ℤ) → Fed (programOf T) F readings times
     → (n : ℕ) → Given (programOf T) F (lentBy (programOf T) F readings times) n
 
--- So every accepted system runs as Giotto's execution, for any task function, any readings and any times in range, the results computed from
--- that execution
+-- So every accepted system runs as Giotto's execution, for any task function, any readings and any times in range, with the results that
+-- are computed from that execution
 abbrev pub ExecutionRight : Type 0
 ExecutionRight =
     (Y : System) → Accepted Y → (F : Function) (readings times : ℕ → List ℤ) → Fed (programOf (Y .tables)) F readings times

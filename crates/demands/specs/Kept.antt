@@ -15,8 +15,8 @@ use Rattle.machine.specs.Advance.{Lent, ready}
 use Rattle.machine.specs.declared.State.{State}
 use Rattle.demands.specs.Composed.{System, Accepted, joined, code, stateAt, configurationAt, Fair}
 
--- Tick n lies in the round of Giotto's mode at this place: in unit k, e ticks after the unit's start. C is the configuration after tick n's
--- instant, if it has one: its unit is the next one, and its time the tick at which that begins
+-- Tick n lies in the round of Giotto's mode at this place: in unit k, e ticks after the unit's start. C is the configuration after the
+-- tick's instant, if it has one: its unit is the next one, and its time the tick at which that begins
 pub record InRound (P : Program) (n : ℕ) (C : Configuration) (k e : ℕ) : Type 0 where
   pub unit : k < mode P (C .mode) .units
   pub tick : e < ticksOf (mode P (C .mode))
@@ -39,7 +39,7 @@ TickInWindow Y F lents n s =
     let C = configurationAt Y F lents (suc n) in
     (k e : ℕ) × InRound P n C k e × InWindow (Y .windows) s (C .mode) (k * ticksOf (mode P (C .mode)) + e)
 
--- In every tick of a composed run the E part is not refused, and the tick is in a window of each supplier that runs in the state that it leaves
+-- In every tick of a composed run the E part is not refused, and a supplier that runs in the state that it leaves has a window there
 abbrev pub WindowsKept : Type 0
 WindowsKept =
     (Y : System) → Accepted Y → (F : Function) (lents : ℕ → Lent) (n : ℕ) → ((k : ℕ) → k ≤ n → Fair Y F lents k)
