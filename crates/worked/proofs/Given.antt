@@ -17,7 +17,8 @@ use Rattle.machine.specs.Advance.{Lent, stateOf}
 use Rattle.demands.specs.Composed.{joined, configurationAt, Fair, Right}
 use Rattle.demands.specs.Given.{Given, resultsOf, lentBy, Fed}
 use Rattle.demands.specs.Kept.{InRound, readyAt, TickInWindow}
-use Rattle.demands.proofs.Supplied.{worstTimes, worst-fed}
+use Rattle.demands.specs.Supplied.{worstTimes}
+use Rattle.demands.proofs.Supplied.{worst-fed}
 use Rattle.demands.proofs.Given.{given-fair, given-right, given-met, execution-right}
 use Rattle.demands.proofs.Kept.{place-one, windows-kept}
 use Rattle.worked.specs.Computed.{computed}

@@ -4,10 +4,11 @@ use Prim.Native.Nat.{ℕ, zero, suc, _<_}
 use mathlib.Core.Path.{_≡_, refl}
 use mathlib.Core.Bool.{true}
 use mathlib.Core.List.{[], _∷_}
+use mathlib.Core.Logic.{_⊎_, inl, inr}
 use native.Mathlib.Omega.{arith}
-use lib.IntN.{pos}
 use Rattle.cells.specs.Cell.{numAt}
-use Rattle.program.specs.Tables.{taskCount}
+use Rattle.cells.specs.Limits.{suppliers}
+use Rattle.program.specs.Tables.{taskCount, taskSupplier}
 use Rattle.program.specs.Program.{programOf, task}
 use Rattle.rules.specs.Fields.{InRange}
 use Rattle.rules.proofs.Accepted.{accepted-fields}
@@ -17,12 +18,13 @@ use Rattle.giotto.proofs.Released.{released-declared}
 use Rattle.machine.specs.Schedules.{nobody, one}
 use Rattle.machine.specs.Advance.{Lent}
 use Rattle.demands.specs.Composed.{Accepted, stateAt, Fair, Right}
-use Rattle.demands.specs.Supplied.{supplied}
+use Rattle.demands.specs.Supplied.{supplied, worstTimes}
+use Rattle.demands.specs.Idle.{Idle, askedOf}
 use Rattle.demands.proofs.Composed.{composed-run, same-values}
-use Rattle.demands.proofs.Supplied.{worstTimes, premises-met, worst-case-fair}
+use Rattle.demands.proofs.Idle.{accepted-of}
+use Rattle.demands.proofs.Supplied.{premises-met, worst-case-fair}
 use Rattle.worked.specs.Computed.{computed}
 use Rattle.worked.specs.Systems.{pair, pair-system, mix, readings, changing, runsAsGiotto, whoEach}
-use Rattle.worked.proofs.Runs.{below-eight}
 
 -- two rounds of the machine are those of Giotto's execution
 pair-runs : runsAsGiotto pair-system mix readings changing 16 ≡ true
@@ -37,9 +39,22 @@ pair-shares : whoEach pair-system mix readings changing 16
 unfolding computed
 pair-shares = refl
 
+-- suppliers 0 and 1 are accepted alone, and the others have nothing to do
+pair-owners : (s t : ℕ) → t < taskCount pair → taskSupplier pair t ≡ suc (suc s) → ⊥
+unfolding computed
+pair-owners s zero l e = omega arith
+pair-owners s (suc zero) l e = omega arith
+pair-owners s (suc (suc t)) l e = omega arith
+
+pair-suppliers : (s : ℕ) → s < suppliers → Idle (askedOf pair-system s) ⊎ (supplierVerdict (askedOf pair-system s) .number ≡ 0)
+unfolding computed
+pair-suppliers zero l = inr refl
+pair-suppliers (suc zero) l = inr refl
+pair-suppliers (suc (suc s)) l = inl (record { no-rows = refl; no-tasks = pair-owners s })
+
 pub pair-accepted : Accepted pair-system
 unfolding computed
-pair-accepted = record { windows = refl; compiled = refl; suppliers = below-eight (λ s. supplierVerdict (record { tables = pair-system .tables; windows = pair-system .windows; part = pair-system .parts s; supplier = pos s }) .number ≡ 0) refl refl refl refl refl refl refl refl }
+pair-accepted = accepted-of pair-system refl refl pair-suppliers
 
 -- whatever the tick, the times are in range
 in-range : (n t : ℕ) → t < taskCount pair → InRange (numAt (changing n) t) (task (programOf pair) t .worst)
