@@ -1,13 +1,13 @@
 -- The digits of a number, one at a time from the last: which follow, how many there are, and where they are put.
 -- Assumes nothing.
 use Prim.Native.Nat.{ℕ, zero, suc, _+_, _-_, _/_, _%_, _≤_, _<_}
-use mathlib.Core.Path.{_≡_, sym, ap, subst, _∙_}
+use mathlib.Core.Path.{_≡_, refl, sym, ap, subst, _∙_}
 use mathlib.Core.Bool.{Bool, true, false}
 use mathlib.Core.List.{List, [], _∷_}
 use native.Mathlib.Omega.{arith}
 use lib.Dec.{ltb}
-use lib.ListN.{length, drop, set, length-set, drop-of-length-le}
-use lib.Seq.{drop-cons, getD-set-same, drop-set-lt}
+use lib.ListN.{length, take, drop, set, replicate, length-set, length-drop, drop-of-length-le}
+use lib.Seq.{drop-cons, getD-set-same, drop-set-lt, take-set-le, take-take}
 use borrow.Author.Tests.{lt-ltb, le-ltb}
 use Rattle.text.specs.Decimal.{digitZero, digitsBefore, decimal}
 use Rattle.text.specs.Digits.{mostDigits}
@@ -42,6 +42,11 @@ digits-few (suc most) n text = go (ltb n 10) (digits-few most (n / 10) (lastDigi
 pub decimal-few : (n : ℕ) → length (decimal n) ≤ mostDigits
 decimal-few n = omega (arith, digits-few mostDigits n [])
 
+-- digits at the end of their room begin as far from its end as there are
+pub digits-place : (n : ℕ) (bytes : List ℕ) (from : ℕ) → from ≤ mostDigits → length bytes ≡ mostDigits → drop from bytes ≡ decimal n
+    → from ≡ mostDigits - length (decimal n)
+digits-place n bytes from l e d = omega (arith, length-drop from bytes, ap length d)
+
 -- a value put in front of the end of a list
 pub put-front : (l : List ℕ) (k b : ℕ) → k < length l → drop k (set l k b) ≡ b ∷ drop (suc k) l
 put-front l k b h =
@@ -52,11 +57,17 @@ pub record Writing (n : ℕ) (bytes : List ℕ) (from rest : ℕ) : Type 0 where
   pub within : from ≤ mostDigits
   pub whole : length bytes ≡ mostDigits
   pub left : digitsBefore from rest (drop from bytes) ≡ decimal n
+  pub front : take from bytes ≡ take from (replicate mostDigits 0)
 
 -- nothing is written yet
-pub writing-none : (n : ℕ) (bytes : List ℕ) → length bytes ≡ mostDigits → Writing n bytes mostDigits n
-writing-none n bytes e =
-    record { within = omega arith; whole = e; left = ap (digitsBefore mostDigits n) (drop-of-length-le bytes {i = mostDigits} (omega arith)) }
+pub writing-none : (n : ℕ) → Writing n (replicate mostDigits 0) mostDigits n
+writing-none n =
+    record {
+      within = omega arith;
+      whole = refl;
+      left = ap (digitsBefore mostDigits n) (drop-of-length-le (replicate mostDigits 0) {i = mostDigits} (omega arith));
+      front = refl;
+    }
 
 module _ (n : ℕ) (bytes : List ℕ) (from rest : ℕ) (h : 0 < from) (w : Writing n bytes from rest) where
   -- one digit more, in front
@@ -69,6 +80,14 @@ module _ (n : ℕ) (bytes : List ℕ) (from rest : ℕ) (h : 0 < from) (w : Writ
   one-more : digitsBefore (suc (from - 1)) rest (drop from bytes) ≡ decimal n
   one-more = let z : from ≡ suc (from - 1) = omega arith in subst (λ (k : ℕ). digitsBefore k rest (drop from bytes) ≡ decimal n) z (w .left)
 
+  -- in front of it nothing is written yet
+  pub front-kept : take (from - 1) (set bytes (from - 1) (lastDigit rest)) ≡ take (from - 1) (replicate mostDigits 0)
+  front-kept =
+      take-set-le (from - 1) bytes (from - 1) (lastDigit rest) (omega arith)
+      ∙ sym (take-take (from - 1) from bytes (omega arith))
+      ∙ ap (take (from - 1)) (w .front)
+      ∙ take-take (from - 1) from (replicate mostDigits 0) (omega arith)
+
   -- others follow in front of it
   pub writing-more : 10 ≤ rest → Writing n (set bytes (from - 1) (lastDigit rest)) (from - 1) (rest / 10)
   writing-more m =
@@ -79,6 +98,7 @@ module _ (n : ℕ) (bytes : List ℕ) (from rest : ℕ) (h : 0 < from) (w : Writ
             ap (digitsBefore (from - 1) (rest / 10)) put-digit
             ∙ sym (digits-more (from - 1) rest (drop from bytes) m)
             ∙ one-more;
+        front = front-kept;
       }
 
   -- it is the first

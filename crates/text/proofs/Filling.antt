@@ -1,19 +1,45 @@
 -- A page that is filled line by line: what stands on it, and when it has a line at least.
 -- Assumes nothing.
-use Prim.Native.Nat.{ℕ, _+_, _-_, _≤_, _<_}
-use mathlib.Core.Path.{_≡_, sym, ap, _∙_}
+use Prim.Native.Nat.{ℕ, zero, suc, _+_, _-_, _≤_, _<_}
+use mathlib.Core.Path.{_≡_, refl, sym, ap, _∙_}
 use mathlib.Core.List.{List, [], _++_}
 use native.Mathlib.Decide.{decLt}
 use native.Mathlib.Numerals.{add-one}
 use native.Mathlib.Omega.{arith}
 use lib.ListN.{length, getD, take, drop, length-append, length-drop}
 use lib.Seq.{slice-empty, take-at, drop-append-add, drop-drop}
+use borrow.Author.Tests.{lt-ltb, le-ltb}
 use Rattle.code.specs.Op.{Op, faulty}
 use Rattle.text.specs.Listing.{lineOf, linesFrom}
 use Rattle.text.specs.Line.{room, textOf, Holds}
-use Rattle.text.specs.Page.{Laid, linesOf, Written}
+use Rattle.text.specs.Page.{Laid, linesOf, Written, pageEnd}
 use Rattle.text.specs.declared.line.Line.{Line}
 use Rattle.text.proofs.Pages.{lines-more, pages-join}
+
+-- a page has come to an instruction: from here it ends where it was to end from its start
+abbrev pub Paged : List Op → ℕ → ℕ → ℕ → ℕ → Type 0
+Paged os size from next len = pageEnd (length os - next) os size next len ≡ pageEnd (length os - from) os size from 0
+
+module _ (os : List Op) (size from next len : ℕ) (p : Paged os size from next len) where
+  -- it ends for want of room
+  pub paged-full : size - len < room → next ≡ pageEnd (length os - from) os size from 0
+  paged-full h = sym (stops (length os - next)) ∙ p
+    where
+      stops : (left : ℕ) → pageEnd left os size next len ≡ next
+      stops zero = refl
+      stops (suc left) = rw (lt-ltb (size - len) room h, pageEnd)
+
+  -- or of instructions
+  pub paged-last : length os ≤ next → next ≡ pageEnd (length os - from) os size from 0
+  paged-last h = let z : 0 ≡ length os - next = omega arith in ap (λ (k : ℕ). pageEnd k os size next len) z ∙ p
+
+  -- or goes on by a line
+  pub paged-more : (end : ℕ) → next < length os → room ≤ size - len → end ≡ len + length (lineOf next (getD os next faulty)) → Paged os size from (next + 1) end
+  paged-more end l h e =
+      let z : length os - next ≡ suc (length os - (next + 1)) = omega arith in
+      ap (pageEnd (length os - (next + 1)) os size (next + 1)) e
+      ∙ sym (ap (λ (k : ℕ). pageEnd k os size next len) z ∙ rw (le-ltb (size - len) room h, pageEnd))
+      ∙ p
 
 -- no line
 lines-none : (os : List Op) (from : ℕ) → linesOf os from from ≡ []

@@ -1,10 +1,9 @@
 -- `text::decimal::Digits::of` meets its contract: the digits are written from the last to the first. Assumes nothing.
-use mathlib.Core.Path.{refl}
 use native.Mathlib.Omega.{arith}
 use lib.ListN.{length-set}
 use borrow.Author.Needs.{needs}
 use Rattle.text.specs.Digits.{digitsIn}
-use Rattle.text.proofs.Decimals.{Writing, writing-none, writing-more, writing-last, writing-full}
+use Rattle.text.proofs.Decimals.{digits-place, Writing, writing-none, front-kept, writing-more, writing-last, writing-full}
 use Rattle.text.proofs.decimal.Digits.of.Statement.{statement}
 use Rattle.text.proofs.decimal.Digits.of.Tie as tie
 
@@ -15,7 +14,7 @@ abbrev μ-loop : tie.MeasureT-loop
 μ-loop n bytes₀ from₀ rest₀ bytes from rest = from
 
 loop-holds : tie.Need-loop-holds Inv-loop μ-loop
-loop-holds c = writing-none _ _ refl
+loop-holds c = writing-none _
 
 sub-from : tie.Need-sub-from Inv-loop μ-loop
 sub-from c = search needs
@@ -33,9 +32,12 @@ returns : tie.Need-returns Inv-loop μ-loop
 unfolding digitsIn
 returns c =
     let s = c .before .before .loop in
+    let l = c .before .loop-test .taken in
+    let digits = writing-last _ (s .bytes) (s .from) (s .rest) l (s .inv) (c .if1 .taken) in
     record {
-      digits = writing-last _ (s .bytes) (s .from) (s .rest) (c .before .loop-test .taken) (s .inv) (c .if1 .taken);
-      within = omega (arith, s .inv .within);
+      digits = digits;
+      front = front-kept _ (s .bytes) (s .from) (s .rest) l (s .inv);
+      place = digits-place (c .before .before .before .args .n) _ _ (omega (arith, s .inv .within)) (simp length-set (s .inv .whole)) digits;
       whole = simp length-set (s .inv .whole);
     }
 
@@ -51,7 +53,13 @@ returns-2 : tie.Need-returns-2 Inv-loop μ-loop
 unfolding digitsIn
 returns-2 c =
     let s = c .before .loop in
-    record { digits = writing-full _ (s .bytes) (s .from) (s .rest) (c .loop-test .left) (s .inv); within = s .inv .within; whole = s .inv .whole }
+    let digits = writing-full _ (s .bytes) (s .from) (s .rest) (c .loop-test .left) (s .inv) in
+    record {
+      digits = digits;
+      front = s .inv .front;
+      place = digits-place (c .before .before .args .n) _ _ (s .inv .within) (s .inv .whole) digits;
+      whole = s .inv .whole;
+    }
 
 pub of-spec : {M : Type 1} → statement M
 of-spec =

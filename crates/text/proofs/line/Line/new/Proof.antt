@@ -1,4 +1,4 @@
--- `text::line::Line::new` meets its contract: none of its bytes are said. Assumes nothing.
+-- `text::line::Line::new` meets its contract: none of its bytes are said, and all are zeros. Assumes nothing.
 use mathlib.Core.Path.{refl}
 use Rattle.text.specs.Line.{textOf}
 use Rattle.text.proofs.line.Line.new.Statement.{statement}
@@ -6,7 +6,7 @@ use Rattle.text.proofs.line.Line.new.Tie as tie
 
 returns : tie.Need-returns
 unfolding textOf
-returns c = record { text = refl; len = refl }
+returns c = record { text = refl; len = refl; rest = refl }
 
 pub new-spec : {M : Type 1} → statement M
 new-spec = tie.close (tie.spec returns)
