@@ -1,13 +1,14 @@
 -- A loop over the units of a round up to the first break: after k of them the rest is judged as the whole, the next block begins
--- behind theirs, and every row of the schedule before the one that the walk has come to is behind it.
+-- behind theirs, and the walk over the schedule has come to a row that every row before is behind. What the round comes to by it.
 -- Assumes of the schedule that it is sorted; for the limits, of the tables that they have no more rows than those (`Few`).
-use Prim.Native.Nat.{ℕ, suc, _+_, _-_, _≤_, _<_}
-use mathlib.Core.Path.{_≡_, sym, ap, subst, subst₂, _∙_}
+use Prim.Native.Nat.{ℕ, zero, suc, _+_, _-_, _≤_, _<_}
+use mathlib.Core.Path.{_≡_, refl, sym, ap, subst, subst₂, _∙_}
 use mathlib.Core.List.{List}
 use native.Mathlib.Nat.{add-zero, add-assoc, le-trans}
 use native.Mathlib.Numerals.{add-one}
 use native.Mathlib.Omega.{arith}
 use lib.IntN.{ℤ}
+use Rattle.theory.specs.Lists.{sum}
 use Rattle.cells.specs.Limits.{maxPorts, maxUnits}
 use Rattle.layout.specs.declared.counts.Counts.{Counts}
 use Rattle.layout.specs.Few.{Few}
@@ -15,12 +16,13 @@ use Rattle.layout.specs.Counts.{countsIn, beforeFuture, sizeOf, mostBlock, most
 use Rattle.layout.proofs.Limits.{unit-most, mode-most}
 use Rattle.runs.specs.declared.block.Span.{Span}
 use Rattle.runs.specs.Schedule.{scheduleCount, rowsOf, blockOf, Sorted, found, spanOf}
-use Rattle.runs.specs.Round.{Course, worstCase, judge, nothing, worstBreak}
+use Rattle.runs.specs.Round.{Course, Break, none, outside, late, worstCase, judge, nothing, worstBreak}
 use Rattle.runs.proofs.Blocks.{behind-later, found-within, found-behind, block-found}
 use Rattle.suppliers.specs.Supplier.{breakNumber, breakTick}
+use Rattle.rounds.specs.declared.round.Rounded.{Rounded}
 use Rattle.rounds.specs.declared.units.Ended.{Ended}
-use Rattle.rounds.specs.Course.{courseIn, blockAt, blockIn, Come}
-use Rattle.rounds.specs.Breaks.{unitEnd}
+use Rattle.rounds.specs.Course.{courseIn, blockAt, blockIn, rowBefore, Come}
+use Rattle.rounds.specs.Breaks.{unitEnd, rounded}
 use Rattle.rounds.proofs.Stops.{unit-passed, unit-breaks, unit-own-block}
 
 -- the walk goes on: from the address of a block to its end, over the rows found at its `future`
@@ -34,7 +36,46 @@ come-more S s at row c h =
           (found-behind S s a row (behind-later S s at a row (omega arith) (h .behind)));
     }
 
-module _ (tasks invocations updates switches W S : List ℤ) (sensors s m u ticks first : ℕ) where
+-- the walk over the first k units has come to the next block and the row before it
+pub come-walk : (S : List ℤ) (s : ℕ) (counts : ℕ → Counts) (first from : ℕ) → Come S s first from
+    → (k : ℕ) → Come S s (blockAt counts first k) (rowBefore S s counts first from k)
+come-walk S s counts first from h zero = subst (λ (a : ℕ). Come S s a from) (sym (add-zero first)) h
+come-walk S s counts first from h (suc k) =
+    subst (λ (a : ℕ). Come S s a (rowBefore S s counts first from (suc k))) (add-assoc first (sum (λ j. sizeOf (counts j)) k) (sizeOf (counts k)))
+    (come-more S s (blockAt counts first k) (rowBefore S s counts first from k) (counts k) (come-walk S s counts first from h k))
+
+-- what the code makes of a break is the round with it
+pub rounded-breaks : (b : Break) (at row : ℕ) {n t : ℕ} → 0 < n → n ≡ breakNumber b → t ≡ breakTick b
+    → _≡_ {A = Rounded} (record { number = n; tick = t; at = 0; row = 0 }) (rounded b at row)
+unfolding rounded
+rounded-breaks none at row l e f = absurd (omega arith)
+rounded-breaks (outside t) at row l e f = λ j. record { number = e j; tick = f j; at = 0; row = 0 }
+rounded-breaks (late t) at row l e f = λ j. record { number = e j; tick = f j; at = 0; row = 0 }
+
+-- and of none
+pub rounded-whole : (b : Break) {at row at′ row′ : ℕ} → 0 ≡ breakNumber b → at ≡ at′ → row ≡ row′
+    → _≡_ {A = Rounded} (record { number = 0; tick = 0; at = at; row = row }) (rounded b at′ row′)
+unfolding rounded
+rounded-whole none e f g = λ j. record { number = 0; tick = 0; at = f j; row = g j }
+rounded-whole (outside t) e f g = absurd (omega arith)
+rounded-whole (late t) e f g = absurd (omega arith)
+
+-- what a round says: the number and the tick of its break, or where it has come to
+pub record Told (r : Rounded) (b : Break) (at row : ℕ) : Type 0 where
+  pub number : r .number ≡ breakNumber b
+  pub tick : r .tick ≡ breakTick b
+  pub came : r .number ≡ 0 → (r .at ≡ at) × (r .row ≡ row)
+
+pub rounded-says : {r : Rounded} {b : Break} {at row : ℕ} → r ≡ rounded b at row → Told r b at row
+unfolding rounded
+rounded-says {r} {b} {at} {row} e = subst (λ (x : Rounded). Told x b at row) (sym e) (go b)
+  where
+    go : (b : Break) → Told (rounded b at row) b at row
+    go none = record { number = refl; tick = refl; came = λ e. (refl, refl) }
+    go (outside t) = record { number = refl; tick = refl; came = λ e. absurd (omega arith) }
+    go (late t) = record { number = refl; tick = refl; came = λ e. absurd (omega arith) }
+
+module _ (tasks invocations updates switches W S : List ℤ) (sensors s m u ticks first from : ℕ) where
   -- what is due at each unit, and the course
   abbrev counts : ℕ → Counts
   counts = countsIn invocations updates switches sensors m u
@@ -48,9 +89,10 @@ module _ (tasks invocations updates switches W S : List ℤ) (sensors s m u tick
     pub judged : judge run (worstCase run) (u - k) k left ≡ worstBreak run nothing
     pub ends : at ≡ blockAt counts first k
     pub come : Come S s at row
+    pub walked : row ≡ rowBefore S s counts first from k
 
   -- the loop begins
-  pub going-none : {row : ℕ} → Come S s first row → Going 0 first row nothing
+  pub going-none : Come S s first from → Going 0 first from nothing
   going-none w =
       let z : u - 0 ≡ u = omega arith in
       record {
@@ -58,6 +100,7 @@ module _ (tasks invocations updates switches W S : List ℤ) (sensors s m u tick
         judged = ap (λ (n : ℕ). judge run (worstCase run) n 0 nothing) z;
         ends = sym (add-zero first);
         come = w;
+        walked = refl;
       }
 
   module _ {k at row : ℕ} {left : List ℕ} (h : Going k at row left) where
@@ -120,20 +163,27 @@ module _ (tasks invocations updates switches W S : List ℤ) (sensors s m u tick
             come =
                 subst₂ (λ (x : ℕ) (y : ℕ). Come S s x y) (λ j. at + sym g j) (sym (ap (λ (x : Span). x .end) q ∙ (λ j. found S row s (at + b j) .end)))
                 (come-more S s at row c (h .come));
+            walked =
+                ap (λ (x : Span). x .end) q
+                ∙ (λ j. found S (h .walked j) s (h .ends j + (b ∙ ap beforeFuture d) j) .end)
+                ∙ ap (rowBefore S s counts first from) (sym (add-one k));
           }
 
       -- it does
-      pub going-breaks : 0 < unit .number → (unit .number ≡ breakNumber (worstBreak run nothing)) × (unit .tick ≡ breakTick (worstBreak run nothing))
+      pub going-breaks : 0 < unit .number
+          → record { number = unit .number; tick = unit .tick; at = 0; row = 0 }
+          ≡ rounded (worstBreak run nothing) (blockAt counts first u) (rowBefore S s counts first from u)
       going-breaks n =
-          let w = unit-breaks run k left (u - (k + 1)) (omega (arith, n, ap (λ (x : Ended). x .number) unit-is)) in (
-            ap (λ (x : Ended). x .number) unit-is ∙ w .0 ∙ ap breakNumber rest,
-            ap (λ (x : Ended). x .tick) unit-is ∙ w .1 ∙ ap breakTick rest,
-          )
+          let w = unit-breaks run k left (u - (k + 1)) (omega (arith, n, ap (λ (x : Ended). x .number) unit-is)) in
+          rounded-breaks (worstBreak run nothing) _ _ n (ap (λ (x : Ended). x .number) unit-is ∙ w .0 ∙ ap breakNumber rest)
+          (ap (λ (x : Ended). x .tick) unit-is ∙ w .1 ∙ ap breakTick rest)
 
     -- the loop ends: no unit broke
-    pub going-all : u ≤ k → (0 ≡ breakNumber (worstBreak run nothing)) × (0 ≡ breakTick (worstBreak run nothing)) × (at ≡ blockAt counts first u)
+    pub going-all : u ≤ k
+        → record { number = 0; tick = 0; at = at; row = row } ≡ rounded (worstBreak run nothing) (blockAt counts first u) (rowBefore S s counts first from u)
     going-all l =
         let z : 0 ≡ u - k = omega arith in
         let y : k ≡ u = omega (arith, h .in-range) in
         let e : judge run (worstCase run) 0 k left ≡ worstBreak run nothing = ap (λ (n : ℕ). judge run (worstCase run) n k left) z ∙ h .judged in
-        (ap breakNumber e, ap breakTick e, h .ends ∙ ap (blockAt counts first) y)
+        rounded-whole (worstBreak run nothing) (ap breakNumber e) (h .ends ∙ ap (blockAt counts first) y)
+        (h .walked ∙ ap (rowBefore S s counts first from) y)

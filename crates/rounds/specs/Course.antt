@@ -1,6 +1,6 @@
 -- What a supplier does in a mode, from the rows of the lent tables: the tasks that are released and that terminate, where each
 -- block stands. That it is the course of suppliers/specs/Supplier for an accepted program is proved in proofs/. Assumes nothing.
-use Prim.Native.Nat.{ℕ, _+_, _/_, _≤_}
+use Prim.Native.Nat.{ℕ, zero, suc, _+_, _/_, _≤_}
 use mathlib.Core.Bool.{Bool, _&&_}
 use mathlib.Core.List.{List}
 use lib.Dec.{eqb}
@@ -14,7 +14,7 @@ use Rattle.layout.specs.declared.counts.Counts.{Counts}
 use Rattle.layout.specs.Counts.{countsIn, beforeFuture, sizeOf}
 use Rattle.runs.specs.Tick.{Row}
 use Rattle.runs.specs.Windows.{inWindow}
-use Rattle.runs.specs.Schedule.{scheduleCount, blockOf, Behind}
+use Rattle.runs.specs.Schedule.{scheduleCount, blockOf, Behind, found}
 use Rattle.runs.specs.Round.{Course}
 
 -- the invocation in row i is due at unit k of mode m, which has u units, and its task is one of supplier s
@@ -47,6 +47,12 @@ blockAt counts first k = first + sum (λ j. sizeOf (counts j)) k
 -- the rows at its `future`
 abbrev pub blockIn : List ℤ → ℕ → (ℕ → Counts) → ℕ → ℕ → List Row
 blockIn S s counts first k = blockOf S s (blockAt counts first k + beforeFuture (counts k))
+
+-- the schedule's row that a walk has come to before the block of unit k, from row `from` before that of unit 0
+abbrev pub rowBefore : List ℤ → ℕ → (ℕ → Counts) → ℕ → ℕ → ℕ → ℕ
+rowBefore S s counts first from zero = from
+rowBefore S s counts first from (suc k) =
+    found S (rowBefore S s counts first from k) s (blockAt counts first k + beforeFuture (counts k)) .end
 
 -- mode m of these tables, whose first block stands at `first`
 abbrev pub courseOn : Tables → List ℤ → List ℤ → ℕ → ℕ → ℕ → ℕ → Course

@@ -4,13 +4,15 @@ ghost use Prim.Native.Nat.{_+_, _≤_, _<_};
 ghost use Rattle.cells.specs.Cell.{rowsIn};
 ghost use Rattle.cells.specs.Limits.{maxPorts, maxModes};
 ghost use Rattle.program.specs.Tables.{Tables, modeWidth, modeCount};
+ghost use Rattle.program.specs.Units.{units};
 ghost use Rattle.layout.specs.Counts.{mostMode, mostCode};
 ghost use Rattle.layout.specs.Few.{Few, Periods};
-ghost use Rattle.layout.specs.Layout.{sizeIn, startIn};
+ghost use Rattle.layout.specs.Layout.{unitCounts, sizeIn, startIn};
 ghost use Rattle.runs.specs.Schedule.{Sorted};
 ghost use Rattle.runs.specs.Round.{worstBreak, nothing};
-ghost use Rattle.suppliers.specs.Supplier.{breakNumber, breakTick, answerFrom};
-ghost use Rattle.rounds.specs.Course.{courseOn, Come};
+ghost use Rattle.suppliers.specs.Supplier.{answerFrom};
+ghost use Rattle.rounds.specs.Course.{rowBefore, courseOn, Come};
+ghost use Rattle.rounds.specs.Breaks.{rounded};
 use crate::round;
 use crate::round::Rounded;
 use cells::columns::mode;
@@ -42,10 +44,7 @@ fn one_mode(
     requires { ⌜ first + mostMode ≤ mostCode ⌝ }
     requires { ⌜ Sorted (now part) ⌝ }
     requires { ⌜ Come (now part) supplier first from ⌝ }
-    ensures number { λ r. ⌜ ((T : Tables) → T .tasks ≡ now (tasks .entry) → T .modes ≡ now (modes .entry) → T .invocations ≡ now (invocations .entry) → T .updates ≡ now (updates .entry) → T .switches ≡ now (switches .entry) → r .number ≡ breakNumber (worstBreak (courseOn T (now (windows .entry)) (now (part .entry)) supplier sensors m first) nothing)) ⌝ }
-    ensures tick { λ r. ⌜ ((T : Tables) → T .tasks ≡ now (tasks .entry) → T .modes ≡ now (modes .entry) → T .invocations ≡ now (invocations .entry) → T .updates ≡ now (updates .entry) → T .switches ≡ now (switches .entry) → r .tick ≡ breakTick (worstBreak (courseOn T (now (windows .entry)) (now (part .entry)) supplier sensors m first) nothing)) ⌝ }
-    ensures end { λ r. ⌜ ((T : Tables) → T .invocations ≡ now (invocations .entry) → T .updates ≡ now (updates .entry) → T .switches ≡ now (switches .entry) → r .number ≡ 0 → r .at ≡ first + sizeIn T sensors m) ⌝ }
-    ensures come { λ r. ⌜ (r .number ≡ 0 → Come (now (part .entry)) supplier (r .at) (r .row)) ⌝ }
+    ensures { λ r. ⌜ ((T : Tables) → T .tasks ≡ now (tasks .entry) → T .modes ≡ now (modes .entry) → T .invocations ≡ now (invocations .entry) → T .updates ≡ now (updates .entry) → T .switches ≡ now (switches .entry) → r ≡ rounded (worstBreak (courseOn T (now (windows .entry)) (now (part .entry)) supplier sensors m first) nothing) (first + sizeIn T sensors m) (rowBefore (now (part .entry)) supplier (unitCounts T sensors m) first from (units T m))) ⌝ }
 {
     let own = Mode::of(m);
     let u = multiples::units(invocations, updates, switches, own);

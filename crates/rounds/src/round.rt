@@ -6,15 +6,15 @@ ghost use Rattle.layout.specs.Counts.{countsIn, mostMode, mostCode};
 ghost use Rattle.layout.specs.Few.{Few};
 ghost use Rattle.runs.specs.Schedule.{Sorted};
 ghost use Rattle.runs.specs.Round.{worstBreak, nothing};
-ghost use Rattle.suppliers.specs.Supplier.{breakNumber, breakTick};
-ghost use Rattle.rounds.specs.Course.{courseIn, blockAt, blockIn, Come};
+ghost use Rattle.rounds.specs.Course.{courseIn, blockAt, blockIn, rowBefore, Come};
+ghost use Rattle.rounds.specs.Breaks.{rounded};
 use crate::units;
 use cells::kinds::Mode;
 use cells::limits::Program;
 use layout::counts;
 use runs::block;
 
-// 14 or 15 with the tick of the round; or 0, and the address and the schedule's row at which the next mode begins.
+// 14 or 15 with the tick of the round, then 0 and 0; or 0 and 0, and the address and the schedule's row at which the next mode begins.
 pub struct Rounded {
     pub number: usize,
     pub tick: usize,
@@ -45,10 +45,7 @@ pub fn one_round(
     requires { ⌜ first + mostMode ≤ mostCode ⌝ }
     requires { ⌜ Sorted (now part) ⌝ }
     requires { ⌜ Come (now part) supplier first from ⌝ }
-    ensures number { λ r. ⌜ r .number ≡ breakNumber (worstBreak (courseIn (now (tasks .entry)) (now (invocations .entry)) (now (windows .entry)) supplier (m .0) u ticks (blockIn (now (part .entry)) supplier (countsIn (now (invocations .entry)) (now (updates .entry)) (now (switches .entry)) sensors (m .0) u) first)) nothing) ⌝ }
-    ensures tick { λ r. ⌜ r .tick ≡ breakTick (worstBreak (courseIn (now (tasks .entry)) (now (invocations .entry)) (now (windows .entry)) supplier (m .0) u ticks (blockIn (now (part .entry)) supplier (countsIn (now (invocations .entry)) (now (updates .entry)) (now (switches .entry)) sensors (m .0) u) first)) nothing) ⌝ }
-    ensures end { λ r. ⌜ (r .number ≡ 0 → r .at ≡ blockAt (countsIn (now (invocations .entry)) (now (updates .entry)) (now (switches .entry)) sensors (m .0) u) first u) ⌝ }
-    ensures come { λ r. ⌜ (r .number ≡ 0 → Come (now (part .entry)) supplier (r .at) (r .row)) ⌝ }
+    ensures { λ r. ⌜ r ≡ rounded (worstBreak (courseIn (now (tasks .entry)) (now (invocations .entry)) (now (windows .entry)) supplier (m .0) u ticks (blockIn (now (part .entry)) supplier (countsIn (now (invocations .entry)) (now (updates .entry)) (now (switches .entry)) sensors (m .0) u) first)) nothing) (blockAt (countsIn (now (invocations .entry)) (now (updates .entry)) (now (switches .entry)) sensors (m .0) u) first u) (rowBefore (now (part .entry)) supplier (countsIn (now (invocations .entry)) (now (updates .entry)) (now (switches .entry)) sensors (m .0) u) first from u) ⌝ }
 {
     let mut left = [0; Program::TASKS];
     let mut at = first;

@@ -1,5 +1,5 @@
 -- `rounds::every_mode::one_mode` meets its contract: a mode of so small a number is named by it. Assumes nothing.
-use Prim.Native.Nat.{ℕ, _+_, _≤_}
+use Prim.Native.Nat.{ℕ, _≤_}
 use mathlib.Core.Path.{_≡_, ap, _∙_}
 use native.Mathlib.Nat.{div-le-self, le-trans}
 use native.Mathlib.Omega.{arith}
@@ -7,10 +7,12 @@ use borrow.Author.Needs.{needs}
 use Rattle.cells.specs.Limits.{maxPeriod}
 use Rattle.cells.proofs.Names.{name-small}
 use Rattle.program.specs.Units.{units}
+use Rattle.layout.specs.declared.counts.Counts.{Counts}
 use Rattle.layout.proofs.Limits.{told-most, units-told}
-use Rattle.layout.proofs.Laid.{size-lent}
-use Rattle.runs.specs.Round.{Course, worstBreak, nothing}
-use Rattle.suppliers.specs.Supplier.{breakNumber, breakTick}
+use Rattle.layout.proofs.Laid.{counts-lent}
+use Rattle.runs.specs.Round.{worstBreak, nothing}
+use Rattle.rounds.specs.Course.{blockAt, rowBefore}
+use Rattle.rounds.specs.Breaks.{rounded}
 use Rattle.rounds.proofs.Lent.{course-lent}
 use Rattle.rounds.proofs.every_mode.one_mode.Statement.{statement}
 use Rattle.rounds.proofs.every_mode.one_mode.Tie as tie
@@ -43,30 +45,19 @@ one-round-requires c κs =
     )
 
 returns : tie.Need-returns
-returns c =
+returns c T d b e f g =
     let s = c .before .before .before .before in
     let a = s .args in
     let own = c .before .before .before .of in
     let named : own .result .0 ≡ a .m = own .ensures ∙ name-small _ (omega (arith, s .pre .1 .1 .1 .1 .0)) in
-    let units-of = c .before .before .units in
-    let round = c .one-round .ensures in (
-      λ T d b e f g.
-          round .0
-          ∙ ap (λ (C : Course). breakNumber (worstBreak C nothing))
-          (course-lent T (a .windows .now) (a .part .now) (a .supplier) (a .sensors) (a .first) (a .m) d b e f g named (units-of .ensures T e f g) (c .before .field .ensures)),
-      (
-        λ T d b e f g.
-            round .1 .0
-            ∙ ap (λ (C : Course). breakTick (worstBreak C nothing))
-            (course-lent T (a .windows .now) (a .part .now) (a .supplier) (a .sensors) (a .first) (a .m) d b e f g named (units-of .ensures T e f g) (c .before .field .ensures)),
-        (
-          λ T e f g z.
-              round .1 .1 .0 z
-              ∙ ap (λ (n : ℕ). a .first + n) (size-lent T (a .sensors) e f g named (units-of .ensures T e f g ∙ ap (units T) named)),
-          round .1 .1 .1,
-        ),
-      ),
-    )
+    let units-of = c .before .before .units .ensures T e f g in
+    let n = units-of ∙ ap (units T) named in
+    let course =
+    course-lent T (a .windows .now) (a .part .now) (a .supplier) (a .sensors) (a .first) (a .m) d b e f g named units-of (c .before .field .ensures) in
+    c .one-round .ensures
+    ∙ (λ j.
+    let counts : ℕ → Counts = λ k. counts-lent T (a .sensors) e f g named n k j in
+    rounded (worstBreak (course j) nothing) (blockAt counts (a .first) (n j)) (rowBefore (a .part .now) (a .supplier) counts (a .first) (a .from) (n j)))
 
 pub one-mode-spec : {M : Type 1} → statement M
 one-mode-spec =

@@ -11,13 +11,13 @@ use Rattle.rounds.proofs.round.one_round.Tie as tie
 
 abbrev Inv-loop : tie.InvT-loop
 Inv-loop tasks invocations updates switches windows part sensors supplier m u ticks first from left₀ at₀ row₀ k₀ left at row k =
-    Going tasks invocations updates switches windows part sensors supplier (m .0) u ticks first k at row left
+    Going tasks invocations updates switches windows part sensors supplier (m .0) u ticks first from k at row left
 
 abbrev μ-loop : tie.MeasureT-loop
 μ-loop tasks invocations updates switches windows part sensors supplier m u ticks first from left₀ at₀ row₀ k₀ left at row k = u - k
 
 loop-holds : tie.Need-loop-holds Inv-loop μ-loop
-loop-holds c = going-none _ _ _ _ _ _ _ _ _ _ _ _ (c .pre .1 .1 .1 .1 .1 .1)
+loop-holds c = going-none _ _ _ _ _ _ _ _ _ _ _ _ _ (c .pre .1 .1 .1 .1 .1 .1)
 
 count-requires : tie.Need-count-requires Inv-loop μ-loop
 count-requires c κs = search needs
@@ -32,7 +32,7 @@ add-find c =
     let t = c .before in
     let s = t .before .before .before in
     let near =
-    going-near _ _ _ _ _ _ _ _ _ _ _ _ (t .before .before .loop .inv) (s .pre .0) (s .pre .1 .0) (s .pre .1 .1 .0) (s .pre .1 .1 .1 .1 .0) (t .count .ensures) in
+    going-near _ _ _ _ _ _ _ _ _ _ _ _ _ (t .before .before .loop .inv) (s .pre .0) (s .pre .1 .0) (s .pre .1 .1 .0) (s .pre .1 .1 .1 .1 .0) (t .count .ensures) in
     record { fits = omega (arith, c .before-future .ensures, near) }
 
 find-requires : tie.Need-find-requires Inv-loop μ-loop
@@ -40,11 +40,11 @@ find-requires c κs =
     let t = c .before in
     let s = t .before .before .before in
     let near =
-    going-near _ _ _ _ _ _ _ _ _ _ _ _ (t .before .before .loop .inv) (s .pre .0) (s .pre .1 .0) (s .pre .1 .1 .0) (s .pre .1 .1 .1 .1 .0) (t .count .ensures) in
+    going-near _ _ _ _ _ _ _ _ _ _ _ _ _ (t .before .before .loop .inv) (s .pre .0) (s .pre .1 .0) (s .pre .1 .1 .0) (s .pre .1 .1 .1 .1 .0) (t .count .ensures) in
     omega (arith, c .before-future .ensures, near)
 
 rows-at-requires : tie.Need-rows-at-requires Inv-loop μ-loop
-rows-at-requires c κs = going-found _ _ _ _ _ _ _ _ _ _ _ _ (c .before .before .before .before .loop .inv) _ (c .find .ensures)
+rows-at-requires c κs = going-found _ _ _ _ _ _ _ _ _ _ _ _ _ (c .before .before .before .before .loop .inv) _ (c .find .ensures)
 
 one-unit-requires : tie.Need-one-unit-requires Inv-loop μ-loop
 one-unit-requires c κs =
@@ -55,11 +55,9 @@ returns c =
     let r = c .before .before in
     let t = r .before .before .before .before in
     let s = t .before .before .before in
-    let w =
-    going-breaks _ _ _ _ _ _ _ _ _ _ _ _ (t .before .before .loop .inv) (s .pre .1 .1 .1 .1 .1 .0) (t .before .loop-test .taken)
+    going-breaks _ _ _ _ _ _ _ _ _ _ _ _ _ (t .before .before .loop .inv) (s .pre .1 .1 .1 .1 .1 .0) (t .before .loop-test .taken)
     (t .count .ensures) (r .before .before .before .before-future .ensures) (r .before .before .find .ensures) (r .before .rows-at .ensures) (r .one-unit .ensures)
-    (c .if1 .taken) in
-    (w .0, (w .1, (λ e. absurd (omega (arith, c .if1 .taken)), λ e. absurd (omega (arith, c .if1 .taken)))))
+    (c .if1 .taken)
 
 block-size-requires : tie.Need-block-size-requires Inv-loop μ-loop
 block-size-requires c κs =
@@ -72,7 +70,7 @@ add-at c =
     let t = c .before .before .before .before .before .before .before .before in
     let s = t .before .before .before in
     let near =
-    going-near _ _ _ _ _ _ _ _ _ _ _ _ (t .before .before .loop .inv) (s .pre .0) (s .pre .1 .0) (s .pre .1 .1 .0) (s .pre .1 .1 .1 .1 .0) (t .count .ensures) in
+    going-near _ _ _ _ _ _ _ _ _ _ _ _ _ (t .before .before .loop .inv) (s .pre .0) (s .pre .1 .0) (s .pre .1 .1 .0) (s .pre .1 .1 .1 .1 .0) (t .count .ensures) in
     record { fits = omega (arith, c .block-size .ensures, near) }
 
 add-k : tie.Need-add-k Inv-loop μ-loop
@@ -86,14 +84,12 @@ loop-again c =
     let r = c .before .before .before .before in
     let t = r .before .before .before .before in
     let s = t .before .before .before in
-    going-more _ _ _ _ _ _ _ _ _ _ _ _ (t .before .before .loop .inv) (s .pre .1 .1 .1 .1 .1 .0) (t .before .loop-test .taken)
+    going-more _ _ _ _ _ _ _ _ _ _ _ _ _ (t .before .before .loop .inv) (s .pre .1 .1 .1 .1 .1 .0) (t .before .loop-test .taken)
     (t .count .ensures) (r .before .before .before .before-future .ensures) (r .before .before .find .ensures) (r .before .rows-at .ensures) (r .one-unit .ensures)
     (c .block-size .ensures) (c .before .before .if1 .left)
 
 returns-2 : tie.Need-returns-2 Inv-loop μ-loop
-returns-2 c =
-    let h = c .before .loop .inv in
-    let w = going-all _ _ _ _ _ _ _ _ _ _ _ _ h (c .loop-test .left) in (w .0, (w .1, (λ e. w .2, λ e. h .come)))
+returns-2 c = going-all _ _ _ _ _ _ _ _ _ _ _ _ _ (c .before .loop .inv) (c .loop-test .left)
 
 pub one-round-spec : {M : Type 1} → statement M
 one-round-spec =
