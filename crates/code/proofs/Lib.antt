@@ -1,4 +1,4 @@
--- What holds of the listing: its length, where its pieces stand, what its words say, what it names.
+-- What holds of the listing: its length, where its pieces stand, what its words say, what it names. What compiling answers.
 pub mod Length
 pub mod At
 pub mod Place
@@ -7,3 +7,4 @@ pub mod Words
 pub mod Fetch
 pub mod Inside
 pub mod Accepted
+pub mod Answers

@@ -1,33 +1,33 @@
--- Demand 1 holds of the definitions: each call's number is that of the first of its rules that is broken, and a refused
--- advance keeps the state. Assumes nothing.
-use Prim.Native.Nat.{ℕ, zero, suc}
-use mathlib.Core.Path.{_≡_, refl}
+-- Demand 1 holds of the definitions: each call's number is that of the first of its rules that is broken, an advance is accepted exactly
+-- where its rules hold and its tick passes, a refused one keeps the state, and a fresh state has its first values or is all 0.
+-- Assumes nothing.
+use Prim.Native.Nat.{ℕ}
+use mathlib.Core.Path.{_≡_, refl, sym, _∙_}
 use mathlib.Core.Bool.{Bool}
 use mathlib.Core.List.{List, [], _∷_, _++_, map}
-use mathlib.Core.Logic.{_↔_}
-use lib.IntN.{pos}
-use lib.ListN.{replicate}
+use mathlib.Core.Logic.{_↔_, Iff·trans}
+use native.Mathlib.Omega.{arith}
 use Rattle.theory.specs.Claim.{Bars}
-use Rattle.theory.specs.Verdict.{Refusal, within, verdict, Rule, holding, First}
+use Rattle.theory.specs.Verdict.{Refusal, within, verdict, Rule, holding, First, Keep}
 use Rattle.theory.proofs.Bools.{_or_, bars-lt, bars-as}
-use Rattle.theory.proofs.Verdict.{Barred, verdict-first, barred-within, barred-append}
-use Rattle.cells.specs.Limits.{maxPorts}
+use Rattle.theory.proofs.Verdict.{Barred, verdict-first, first-none, barred-within, barred-append}
 use Rattle.program.specs.Tables.{Tables}
-use Rattle.program.specs.Program.{programOf}
 use Rattle.rules.specs.Shape.{Shaped}
-use Rattle.rules.specs.Verdict.{shapeRefusal, tableRefusals, tableRules, programRules, programVerdict}
+use Rattle.rules.specs.Verdict.{shapeRefusal, tableRefusals, tableRules, programRules}
 use Rattle.rules.proofs.Shape.{shape-bars, slice-bars}
-use Rattle.rules.proofs.Verdict.{program-barred}
+use Rattle.rules.proofs.Verdict.{program-barred, program-first}
 use Rattle.code.specs.Compile.{Compiling, codeLong, longRefusal, longRule, CodeFits, lentRefusals, lentRules, sliceShort, sliceRefusals, sliceRules, compileRefusals, compileVerdict, compileRules}
+use Rattle.code.proofs.Answers.{compile-number}
 use Rattle.suppliers.specs.Windows.{Windowed, windowsShapeBad, windowRefusals, windowsVerdict, WindowsShaped, windowRules}
-use Rattle.suppliers.specs.Supplier.{Asked, supplierOf, partShapeBad, windowedOf, ownRefusals, partVerdict, PartShaped, ownRules}
+use Rattle.suppliers.specs.Supplier.{Asked, supplierOf, partShapeBad, windowedOf, ownRefusals, partVerdict, PartShaped, ownRules, partRules}
 use Rattle.suppliers.proofs.Windows.{windows-bar}
 use Rattle.suppliers.proofs.Schedule.{part-bars, joined-bars}
-use Rattle.machine.specs.declared.Advanced.{Advanced}
-use Rattle.machine.specs.Advance.{stateOf, Advance, advanceShapeBad, AdvanceShaped, runRefusals, runRules, advanceVerdict, freshAnswer}
+use Rattle.machine.specs.Advance.{Advance, advanceShapeBad, AdvanceShaped, runRefusals, runRules, advanceRules, advanceVerdict}
 use Rattle.machine.proofs.Fits.{advance-shape-bars, state-bars}
 use Rattle.machine.proofs.Refusals.{refused-keeps}
-use Rattle.demands.specs.Calls.{CompileExact, WindowsExact, PartExact, AdvanceExact, RefusedKeeps, FreshNumber}
+use Rattle.machine.proofs.Fresh.{fresh-number, fresh-zero, fresh-first}
+use Rattle.machine.proofs.Exact.{advance-judged, advance-accepted, advance-only}
+use Rattle.demands.specs.Calls.{CompileExact, WindowsExact, AdvanceExact, FreshExact}
 
 -- 11 bars code within the limit
 pub long-bars : (T : Tables) → Bars (codeLong T) (CodeFits T)
@@ -51,15 +51,21 @@ lent-exact tables shape own Shape rules a s t w n =
     n
 
 -- compiling
-pub compile-exact : CompileExact
+compile-first : (L : Compiling) (n : ℕ) → (compileVerdict L ≡ n) ↔ First compileRules L n
 unfolding compileVerdict codeLong sliceShort
-compile-exact L n =
+compile-first L n =
     verdict-first compileRefusals compileRules L
     (barred-append (map (within (λ (L : Compiling). L .tables)) (shapeRefusal ∷ tableRefusals)) sliceRefusals
     (map (holding (λ (L : Compiling). L .tables)) programRules) sliceRules L
     (barred-within (λ (L : Compiling). L .tables) (shapeRefusal ∷ tableRefusals) programRules L (program-barred (L .tables)))
     (refl, bars-lt _ _ or bars-lt _ _, λ h. tt))
     n
+
+pub compile-exact : CompileExact
+compile-exact L n = (
+  λ e. compile-first L n .0 (sym (compile-number L) ∙ e),
+  λ f. compile-number L ∙ compile-first L n .1 f,
+)
 
 -- the windows verdict
 pub windows-exact : WindowsExact
@@ -69,35 +75,45 @@ windows-exact L n =
     (shape-bars (L .tables) or slice-bars _ _ (L .windows)) (λ h. h .0) (refl, windows-bar L, λ w. tt) n
 
 -- a supplier's verdict up to 13
-pub part-exact : PartExact
+pub part-first : (L : Asked) (n : ℕ) → (partVerdict L ≡ n) ↔ First partRules L n
 unfolding partVerdict partShapeBad
-part-exact L n =
+part-first L n =
     lent-exact (λ (L : Asked). L .tables) partShapeBad ownRefusals PartShaped ownRules L
     (bars-as (shape-bars (L .tables) or slice-bars _ _ (L .windows) or slice-bars _ _ (L .part)) (λ ((s, w), p). (s, w, p)) (λ (s, w, p). ((s, w), p)))
     (λ h. h .0)
     (refl, windows-bar (windowedOf L), λ w. (refl, part-bars (L .tables) (L .part) (supplierOf L), λ p. tt))
     n
 
+pub part-kept : (L : Asked) → (partVerdict L ≡ 0) ↔ Keep partRules L
+part-kept L = Iff·trans (part-first L 0) (first-none partRules L (omega arith))
+
 -- an advance, before it runs
-pub advance-exact : AdvanceExact
+advance-first : (L : Advance) (n : ℕ) → (advanceVerdict L ≡ n) ↔ First advanceRules L n
 unfolding advanceVerdict
-advance-exact L n =
+advance-first L n =
     lent-exact (λ (L : Advance). L .tables) advanceShapeBad runRefusals AdvanceShaped runRules L (advance-shape-bars L) (λ h. h .tables)
     (refl, joined-bars (L .tables) (L .schedule), λ w. (refl, state-bars L, λ p. tt)) n
 
-pub advance-keeps : RefusedKeeps
-advance-keeps L h = refused-keeps L h
+-- where it gives no number, its rules hold, and what else was said with it
+pub advance-kept : (L : Advance) {X Y : Type 0} → X ↔ ((advanceVerdict L ≡ 0) × Y) → X ↔ (Keep advanceRules L × Y)
+advance-kept L w =
+    let k : (advanceVerdict L ≡ 0) ↔ Keep advanceRules L = Iff·trans (advance-first L 0) (first-none advanceRules L (omega arith)) in (
+      λ x. (k .0 (w .0 x .0), w .0 x .1),
+      λ y. w .1 (k .1 (y .0), y .1),
+    )
 
-pub fresh-number : FreshNumber
-unfolding freshAnswer
-fresh-number T = go (programVerdict T)
-  where
-    answered : ℕ → Advanced
-    answered n = elim n [
-      | zero ↦ record { number = 0; state = stateOf (programOf T .first) }
-      | suc m ↦ record { number = suc m; state = stateOf (replicate maxPorts (pos 0)) }
-    ]
+pub advance-exact : (L : Advance) → AdvanceExact L
+advance-exact L = record {
+  judged = λ n s. Iff·trans (advance-judged L n s) (advance-first L n);
+  accepted = advance-kept L (advance-accepted L);
+  only-these = advance-only L;
+  kept = refused-keeps L;
+}
 
-    go : (n : ℕ) → answered n .number ≡ n
-    go zero = refl
-    go (suc n) = refl
+-- a fresh state
+pub fresh-exact : (T : Tables) → FreshExact T
+fresh-exact T = record {
+  number = λ n. (λ e. program-first T n .0 (sym (fresh-number T) ∙ e), λ f. fresh-number T ∙ program-first T n .1 f);
+  refused = fresh-zero T;
+  accepted = fresh-first T;
+}

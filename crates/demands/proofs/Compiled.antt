@@ -8,6 +8,7 @@ use Rattle.program.specs.Program.{programOf}
 use Rattle.code.specs.Op.{instructions}
 use Rattle.code.specs.Compile.{Compiling, compileVerdict}
 use Rattle.code.proofs.Words.{words-are}
+use Rattle.code.proofs.Answers.{compile-passes}
 use Rattle.machine.specs.declared.State.{State}
 use Rattle.machine.specs.Instant.{runInstant}
 use Rattle.compiled.specs.Block.{blockInstant}
@@ -26,7 +27,8 @@ from-block L e readings times m k s b =
 
 -- the compiled code does the instant
 pub compiled-instant : CompiledInstant
-compiled-instant L e readings times m k s b =
+compiled-instant L n readings times m k s b =
+    let e = compile-passes L n in
     let a = compiled-accepted L e in
     let same = from-block L e readings times m k s b in
     record {

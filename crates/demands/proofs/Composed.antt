@@ -9,19 +9,20 @@ use Rattle.program.specs.Program.{programOf}
 use Rattle.code.specs.Op.{emit}
 use Rattle.code.specs.Compile.{listingOf}
 use Rattle.code.proofs.Words.{words-are}
+use Rattle.code.proofs.Answers.{compile-passes}
 use Rattle.giotto.specs.Instant.{Configuration, Function}
 use Rattle.giotto.specs.Execution.{pass, portsAt}
 use Rattle.machine.specs.Advance.{Lent, advanceAnswer}
 use Rattle.machine.specs.declared.State.{State}
 use Rattle.machine.specs.declared.Advanced.{Advanced}
 use Rattle.machine.proofs.Answered.{fresh-accepted}
+use Rattle.machine.proofs.Fresh.{fresh-number}
 use Rattle.composed.specs.Sound.{Sound}
 use Rattle.composed.specs.Suited.{Suited}
 use Rattle.composed.specs.Related.{Related}
 use Rattle.composed.proofs.Run.{related-tick}
 use Rattle.demands.specs.Composed.{System, compiling, Accepted, joined, code, advanced, stateAt, readings, configurationAt, Fair, Right, ComposedRun, SameValues}
 use Rattle.demands.specs.Relation.{RelationKept, RelatedAlways}
-use Rattle.demands.proofs.Calls.{fresh-number}
 use Rattle.demands.proofs.Sound.{accepted-sound}
 
 -- one tick keeps the relation
@@ -34,7 +35,7 @@ module _ (Y : System) (a : Accepted Y) (F : Function) (lents : ℕ → Lent) whe
   sound = accepted-sound Y a
 
   pub is-compiled : code Y ≡ emit (listingOf (Y .tables))
-  is-compiled = words-are (compiling Y) (a .compiled)
+  is-compiled = words-are (compiling Y) (compile-passes (compiling Y) (a .compiled))
 
   -- a fair tick is accepted and keeps the relation
   one-tick : (n : ℕ) (C : Configuration) (s : State) (X : Lent) → Suited (Y .tables) (code Y) (joined Y) F n C s X

@@ -2,7 +2,6 @@
 pub mod Calls
 pub mod Machine
 pub mod Uses
-pub mod Overrun
 pub mod Verdict
 pub mod Supplier
 pub mod Sound

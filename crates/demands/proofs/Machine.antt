@@ -1,18 +1,32 @@
--- When a run is refused, what an accepted advance changes, and how long its instant may be, of the definitions. Assumes nothing.
-use Prim.Native.Nat.{ℕ, _+_, _%_, _^_, _≤_}
+-- When a run is refused, what an accepted advance changes, and how long its instant may be, of the definitions.
+-- Assumes nothing.
+use Prim.Native.Nat.{ℕ, _+_, _%_, _^_, _≤_, _<_}
 use mathlib.Core.Path.{_≡_, ap, subst, _∙_}
 use mathlib.Core.Logic.{_⊎_, inl, inr}
 use Rattle.code.proofs.Fetch.{instructions-length}
 use Rattle.machine.specs.declared.State.{State}
-use Rattle.machine.specs.Instant.{Ends}
-use Rattle.machine.specs.Stops.{program, code, begin}
+use Rattle.machine.specs.Comes.{program, code}
 use Rattle.machine.specs.Moves.{InstantKeeps}
-use Rattle.machine.proofs.Stopped.{advance-stops}
+use Rattle.machine.proofs.Exact.{advance-faulty, advance-time, advance-overruns, advance-runs-on, advance-collides}
 use Rattle.machine.proofs.Moved as moved
-use Rattle.demands.specs.Machine.{RunExact, AdvanceMoves, TimeMoves, InstantCounted}
+use Rattle.demands.specs.Machine.{FaultyExact, TimeExact, OverrunExact, CountExact, CollisionExact, AdvanceMoves, TimeMoves, InstantCounted}
+use Rattle.demands.proofs.Calls.{advance-kept}
 
-pub run-exact : RunExact
-run-exact L e n l = advance-stops L e n l
+-- 19, 16, 17, 20 and 18
+pub faulty-exact : FaultyExact
+faulty-exact L = advance-kept L (advance-faulty L)
+
+pub time-exact : TimeExact
+time-exact L = advance-kept L (advance-time L)
+
+pub overrun-exact : OverrunExact
+overrun-exact L = advance-kept L (advance-overruns L)
+
+pub count-exact : CountExact
+count-exact L = advance-kept L (advance-runs-on L)
+
+pub collision-exact : CollisionExact
+collision-exact L = advance-kept L (advance-collides L)
 
 pub advance-moves : AdvanceMoves
 advance-moves L e = moved.advance-moves L e
@@ -30,5 +44,5 @@ time-moves L e =
 
 pub instant-counted : InstantCounted
 instant-counted L e z =
-    subst (λ (n : ℕ). (u : State) × Ends (program L) (L .lent .readings) (L .lent .times) (code L) n (begin L) u) (instructions-length (L .code))
-    (moved.instant-counted L e z)
+    let (u, w) = moved.instant-counted L e z in
+    (u, w, subst (λ (n : ℕ). w .reaches .before < n) (instructions-length (L .code)) (w .reaches .in-count))

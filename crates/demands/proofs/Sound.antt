@@ -1,8 +1,9 @@
 -- What is known of an accepted system: the program and the windows pass, the parts joined have their shape and pass number 13, and each
 -- supplier's worst-case run alone, with the joined schedule, keeps to its windows and its terminations.
 -- Assumes that the windows verdict and each supplier's verdict are 0.
-use Prim.Native.Nat.{ℕ, zero, suc, _<_}
-use mathlib.Core.Path.{_≡_, refl, sym, subst, _∙_}
+use Prim.Native.Nat.{ℕ, _<_}
+use mathlib.Core.Path.{_≡_, refl, sym, ap, subst, _∙_}
+use mathlib.Core.Logic.{inl}
 use mathlib.Core.List.{List, [], _∷_, map}
 use native.Mathlib.Omega.{arith}
 use lib.IntN.{pos}
@@ -24,11 +25,12 @@ use Rattle.suppliers.specs.declared.Answer.{Answer}
 use Rattle.suppliers.proofs.Windows.{windows-bar}
 use Rattle.suppliers.proofs.Schedule.{part-bars}
 use Rattle.suppliers.proofs.Accepted.{windows-accepted, part-after, part-some-time}
+use Rattle.suppliers.proofs.Answers.{judged-exactly}
 use Rattle.suppliers.proofs.Joining.{joined-course, joined-fits, joined-whole}
 use Rattle.composed.specs.Sound.{Sound}
 use Rattle.demands.specs.Composed.{System, Accepted, joined}
 use Rattle.demands.proofs.Calls.{long-bars}
-use Rattle.demands.proofs.Supplier.{supplier-exact}
+use Rattle.demands.proofs.Supplier.{good-exactly}
 
 -- where the windows verdict is 0, the code is within its limit, and the windows fit and share no tick
 windows-pass : (L : Windowed) → windowsVerdict L ≡ 0 → CodeFits (L .tables) × Windows L
@@ -39,14 +41,9 @@ windows-pass L e =
     let c = verdict-clear own L (omega arith) (verdict-both first own L (omega arith) e .1) in
     (long-bars (L .tables) .ok (c .0), windows-bar L .ok (c .1 .0))
 
--- a supplier is accepted only with its part
-part-passes : (L : Asked) → supplierVerdict L .number ≡ 0 → partVerdict L ≡ 0
-unfolding supplierVerdict
-part-passes L = go (partVerdict L)
-  where
-    go : (n : ℕ) → (elim n as (λ n. Answer) [ zero ↦ judged L | suc n ↦ record { number = suc n; mode = 0; tick = 0 } ]) .number ≡ 0 → n ≡ 0
-    go zero e = refl
-    go (suc n) e = e
+-- a supplier is accepted only with its part, and where its run is good
+passes : (L : Asked) → supplierVerdict L .number ≡ 0 → (partVerdict L ≡ 0) × (judged L ≡ supplierVerdict L)
+passes L e = judged-exactly L (supplierVerdict L) (inl e) .0 refl
 
 -- the part that passes has its shape and passes number 13
 part-fits : (L : Asked) → windowsVerdict (windowedOf L) ≡ 0 → partVerdict L ≡ 0
@@ -63,7 +60,8 @@ part-fits L w e =
 worst-good : (L : Asked) → supplierVerdict L .number ≡ 0 → (m : ℕ) → m < modeCount (L .tables)
     → Good (courseOf L m) (worstCase (courseOf L m)) nothing
 worst-good L e m l =
-    let a = part-passes L e in supplier-exact L a .0 e m l (worstCase (courseOf L m)) (worst-fair (courseOf L m) (part-some-time L a m l))
+    let (a, j) = passes L e in
+    good-exactly L a .0 (ap (λ (b : Answer). b .number) j ∙ e) m l (worstCase (courseOf L m)) (worst-fair (courseOf L m) (part-some-time L a m l))
 
 -- an accepted system is sound
 pub accepted-sound : (Y : System) → Accepted Y → Sound (Y .tables) (Y .windows) (joined Y)
@@ -86,7 +84,7 @@ accepted-sound Y a =
     asked s = record { tables = Y .tables; windows = Y .windows; part = Y .parts s; supplier = pos s }
 
     both : (s : ℕ) → s < suppliers → WholeRows scheduleWidth maxPart (Y .parts s) × Part (Y .tables) (Y .parts s) s
-    both s l = part-fits (asked s) (a .windows) (part-passes (asked s) (a .suppliers s l))
+    both s l = part-fits (asked s) (a .windows) (passes (asked s) (a .suppliers s l) .0)
 
     fits : (s : ℕ) → s < suppliers → Part (Y .tables) (Y .parts s) s
     fits s l = both s l .1

@@ -2,16 +2,16 @@
 -- its windows and terminations; the place is that of the worst-case run; a shorter run is dominated; other suppliers do not matter.
 -- Assumes nothing.
 use Prim.Native.Nat.{ℕ, zero, suc, _≤_, _<_}
-use mathlib.Core.Path.{_≡_, sym, ap, subst, _∙_, fun-ext}
+use mathlib.Core.Path.{_≡_, refl, sym, ap, subst, _∙_, fun-ext}
 use mathlib.Core.Bool.{true}
 use mathlib.Core.List.{List}
-use mathlib.Core.Logic.{_↔_, Iff·trans}
+use mathlib.Core.Logic.{_⊎_, inl, inr, _↔_, Iff·trans}
 use native.Mathlib.Omega.{arith}
 use lib.Dec.{eqb}
 use lib.IntN.{ℤ}
 use lib.ListN.{length}
 use borrow.Author.Tests.{eqb-true, eq-eqb}
-use Rattle.theory.specs.Verdict.{orElse}
+use Rattle.theory.specs.Verdict.{orElse, Keep}
 use Rattle.theory.proofs.Bools.{iff, is-true}
 use Rattle.theory.proofs.Members.{Has, has-those}
 use Rattle.cells.specs.Cell.{indexOf}
@@ -29,13 +29,16 @@ use Rattle.runs.proofs.Dominated.{Any, any-rows, unit-dominated}
 use Rattle.runs.proofs.First.{judge-exactly}
 use Rattle.runs.proofs.Exactly.{no-break-exactly}
 use Rattle.suppliers.specs.Windows.{windowsVerdict}
-use Rattle.suppliers.specs.Supplier.{Asked, supplierOf, courseOf, answerOf, answerFrom, judged, partVerdict, supplierVerdict}
+use Rattle.suppliers.specs.Schedule.{lastStatic}
+use Rattle.suppliers.specs.Supplier.{Asked, supplierOf, courseOf, answerOf, answerFrom, judged, partVerdict, partRules, supplierVerdict}
 use Rattle.suppliers.specs.declared.Answer.{Answer}
 use Rattle.suppliers.proofs.Modes.{AllGood, BreaksFirst, answer-good, answer-break}
 use Rattle.suppliers.proofs.Accepted.{part-some-time, part-after}
-use Rattle.suppliers.proofs.Judged.{verdict-judged}
+use Rattle.suppliers.proofs.Judged.{judged-modes}
+use Rattle.suppliers.proofs.Answers.{judged-accepted, refused-exactly, judged-exactly, only-these}
 use Rattle.suppliers.proofs.Tasks.{withTasks, part-tasks, break-tasks}
-use Rattle.demands.specs.Supplier.{SupplierExact, BreaksAt, SupplierPlace, shorter, longer, Domination, Window, ownWindows, Independent}
+use Rattle.demands.specs.Supplier.{BreaksAt, SupplierExact, shorter, longer, Domination, Window, ownWindows, Independent}
+use Rattle.demands.proofs.Calls.{part-first, part-kept}
 
 module _ (L : Asked) (a : partVerdict L ≡ 0) where
   -- no run breaks exactly where every fair run of every mode is good
@@ -74,21 +77,39 @@ domination C c d k r q h l b =
       runs-only = λ e. tick-runs Any (C .block k) e (shorter C c d k r q e) (longer C c d k r q e) o (w e);
     }
 
--- accepted exactly where every fair run of every mode keeps to its windows and terminations
-pub supplier-exact : SupplierExact
-supplier-exact L a =
-    rw (verdict-judged L a) (Iff·trans (answer-good (λ m. worstBreak (courseOf L m) nothing) (modeCount (L .tables)) 0) (all-good L a))
+-- the run is good exactly where every fair run of every mode keeps to its windows and terminations
+pub good-exactly : (L : Asked) → partVerdict L ≡ 0
+    → (judged L .number ≡ 0)
+    ↔ ((m : ℕ) → m < modeCount (L .tables) → (c : Choice) → WithinWorst (courseOf L m) c → Good (courseOf L m) c nothing)
+good-exactly L a =
+    rw (judged-modes L) (Iff·trans (answer-good (λ m. worstBreak (courseOf L m) nothing) (modeCount (L .tables)) 0) (all-good L a))
 
--- the place is the lowest mode whose worst-case run breaks, and the first break in it
-pub supplier-place : SupplierPlace
-supplier-place L a = record {
-  outside-at = λ m t. place m (outside t) (λ q. absurd (let z : _≡_ {A = ℕ} 0 1 = cc in omega arith));
-  late-at = λ m t. place m (late t) (λ q. absurd (let z : _≡_ {A = ℕ} 0 1 = cc in omega arith));
+-- its break is the lowest mode whose worst-case run breaks, and the first break in it
+break-exactly : (L : Asked) → partVerdict L ≡ 0 → (m : ℕ) (b : Break) → (b ≡ none → ⊥) → (judged L ≡ answerOf m b) ↔ BreaksAt L m b
+break-exactly L a m b d =
+    rw (judged-modes L) (Iff·trans (answer-break (λ m. worstBreak (courseOf L m) nothing) (modeCount (L .tables)) 0 m b d) (breaks-at L a m b d))
+
+-- what a supplier's verdict answers
+pub supplier-exact : (L : Asked) → SupplierExact L
+supplier-exact L = record {
+  refused = λ n l k. Iff·trans (refused-exactly L n l k) (part-first L n);
+  accepted = (
+    λ e. let (z, j) = judged-exactly L (answerOf 0 none) (inl refl) .0 e in (part-kept L .0 z, good-exactly L z .0 (ap (λ (a : Answer). a .number) j)),
+    λ w.
+        let z = part-kept L .1 (w .0) in
+        judged-exactly L (answerOf 0 none) (inl refl) .1 (z, judged-accepted L (good-exactly L z .1 (w .1))),
+  );
+  outside-at = λ m t. place m (outside t) (inr (omega arith)) (λ q. absurd (let z : _≡_ {A = ℕ} 0 1 = cc in omega arith));
+  late-at = λ m t. place m (late t) (inr (omega arith)) (λ q. absurd (let z : _≡_ {A = ℕ} 0 1 = cc in omega arith));
+  only-these = only-these L;
 }
   where
-    place : (m : ℕ) (b : Break) → (b ≡ none → ⊥) → (supplierVerdict L ≡ answerOf m b) ↔ BreaksAt L m b
-    place m b d = rw (verdict-judged L a)
-        (Iff·trans (answer-break (λ m. worstBreak (courseOf L m) nothing) (modeCount (L .tables)) 0 m b d) (breaks-at L a m b d))
+    place : (m : ℕ) (b : Break) → (answerOf m b .number ≡ 0) ⊎ (lastStatic < answerOf m b .number) → (b ≡ none → ⊥)
+        → (supplierVerdict L ≡ answerOf m b) ↔ (Keep partRules L × BreaksAt L m b)
+    place m b o d = (
+      λ e. let (z, j) = judged-exactly L (answerOf m b) o .0 e in (part-kept L .0 z, break-exactly L z m b d .0 j),
+      λ w. let z = part-kept L .1 (w .0) in judged-exactly L (answerOf m b) o .1 (z, break-exactly L z m b d .1 (w .1)),
+    )
 
 -- a window has tick t of mode m
 abbrev HasTick : ℕ → ℕ → Window → Type 0

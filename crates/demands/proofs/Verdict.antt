@@ -1,7 +1,7 @@
 -- Demand 2 holds of the definitions: the verdict exactly, the missing reading, and what compiling writes.
 -- Assumes nothing.
-use Prim.Native.Nat.{ℕ, zero, suc, _*_, _≤_}
-use mathlib.Core.Path.{_≡_, refl, ap, _∙_}
+use Prim.Native.Nat.{ℕ, _*_, _≤_}
+use mathlib.Core.Path.{_≡_, ap, _∙_}
 use mathlib.Core.List.{List, _∷_, map}
 use native.Mathlib.Omega.{arith}
 use lib.ListN.{length, drop, length-append, length-drop}
@@ -18,6 +18,7 @@ use Rattle.code.specs.Op.{Op, emit, instructions}
 use Rattle.code.specs.Compile.{Compiling, listingOf, codeLong, sliceShort, sliceRefusals, compileVerdict, compileAnswer, compileSlice}
 use Rattle.code.proofs.Words.{emit-instructions, emit-length, words-are}
 use Rattle.code.proofs.Accepted.{accepted-length}
+use Rattle.code.proofs.Answers.{compile-passes, compile-refused}
 use Rattle.demands.specs.Verdict.{VerdictExact, AcceptedExactly, MissingReading, ListingWritten, RefusalKeeps}
 
 -- the verdict is the number of the first rule that is broken
@@ -48,7 +49,7 @@ fits L e =
 
 -- not refused: the listing is written, and nothing else
 pub listing-written : ListingWritten
-listing-written L e = record {
+listing-written L z = record {
   length-rule = rw (e, compileAnswer) (accepted-length (L .tables) (compiled-accepted L e));
   few = rw (e, compileAnswer) (fits L e .0);
   the-listing = ap instructions (words-are L e) ∙ emit-instructions os;
@@ -56,6 +57,9 @@ listing-written L e = record {
   same-length = rw (e, compileSlice) (simp (length-append, length-drop) (omega (arith, words, fits L e .1)));
 }
   where
+    e : compileVerdict L ≡ 0
+    e = compile-passes L z
+
     os : List Op
     os = listingOf (L .tables)
 
@@ -70,8 +74,4 @@ listing-written L e = record {
 
 -- refused: nothing is written, and the length is 0
 pub refusal-keeps : RefusalKeeps
-refusal-keeps L h = go (compileVerdict L) refl
-  where
-    go : (n : ℕ) → compileVerdict L ≡ n → (compileSlice L ≡ L .slice) × (compileAnswer L .length ≡ 0)
-    go zero e = absurd (h e)
-    go (suc n) e = (rw (e, compileSlice), rw (e, compileAnswer))
+refusal-keeps L h = compile-refused L h

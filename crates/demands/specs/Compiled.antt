@@ -13,7 +13,7 @@ use Rattle.program.specs.Tables.{taskCount}
 use Rattle.program.specs.Program.{Program, programOf, task, mode, dueTasks}
 use Rattle.rules.specs.Fields.{InRange}
 use Rattle.code.specs.Op.{instructions}
-use Rattle.code.specs.Compile.{Compiling, compileVerdict, wordsOf}
+use Rattle.code.specs.Compile.{Compiling, compileAnswer, wordsOf}
 use Rattle.runs.specs.Tick.{leftOf}
 use Rattle.machine.specs.declared.State.{State}
 use Rattle.machine.specs.Instant.{Outcome, ok, stop, runInstant}
@@ -41,6 +41,6 @@ module _ (L : Compiling) (readings times : List ℤ) (m k : ℕ) (s : State) whe
 -- for every program that is compiled
 abbrev pub CompiledInstant : Type 0
 CompiledInstant =
-    (L : Compiling) → compileVerdict L ≡ 0
+    (L : Compiling) → compileAnswer L .number ≡ 0
     → (readings times : List ℤ) (m k : ℕ) (s : State) → AtBlock (L .tables) m k s
     → InstantDone L readings times m k s

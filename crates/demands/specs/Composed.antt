@@ -9,7 +9,7 @@ use Rattle.theory.specs.Lists.{cat}
 use Rattle.cells.specs.Limits.{suppliers}
 use Rattle.program.specs.Tables.{Tables}
 use Rattle.program.specs.Program.{programOf}
-use Rattle.code.specs.Compile.{Compiling, compileVerdict, wordsOf}
+use Rattle.code.specs.Compile.{Compiling, compileAnswer, wordsOf}
 use Rattle.suppliers.specs.Windows.{windowsVerdict}
 use Rattle.suppliers.specs.Supplier.{supplierVerdict}
 use Rattle.giotto.specs.Instant.{Configuration, Function}
@@ -32,7 +32,7 @@ compiling Y = record { tables = Y .tables; slice = Y .slice }
 -- program and windows accepted, the program compiled, each supplier's code accepted alone
 pub record Accepted (Y : System) : Type 0 where
   pub windows : windowsVerdict (record { tables = Y .tables; windows = Y .windows }) ≡ 0
-  pub compiled : compileVerdict (compiling Y) ≡ 0
+  pub compiled : compileAnswer (compiling Y) .number ≡ 0
   pub suppliers : (s : ℕ) → s < suppliers
       → supplierVerdict (record { tables = Y .tables; windows = Y .windows; part = Y .parts s; supplier = pos s }) .number ≡ 0
 

@@ -7,7 +7,7 @@ use mathlib.Core.Logic.{_⊎_}
 use lib.IntN.{pos}
 use Rattle.cells.specs.Limits.{suppliers}
 use Rattle.program.specs.Tables.{taskCount, taskSupplier}
-use Rattle.code.specs.Compile.{compileVerdict}
+use Rattle.code.specs.Compile.{compileAnswer}
 use Rattle.suppliers.specs.Windows.{windowsVerdict}
 use Rattle.suppliers.specs.Supplier.{Asked, supplierOf, windowedOf, supplierVerdict}
 use Rattle.demands.specs.Composed.{System, compiling, Accepted}
@@ -32,6 +32,6 @@ abbrev pub AcceptedOf : Type 0
 AcceptedOf =
     (Y : System)
     → windowsVerdict (record { tables = Y .tables; windows = Y .windows }) ≡ 0
-    → compileVerdict (compiling Y) ≡ 0
+    → compileAnswer (compiling Y) .number ≡ 0
     → ((s : ℕ) → s < suppliers → Idle (askedOf Y s) ⊎ (supplierVerdict (askedOf Y s) .number ≡ 0))
     → Accepted Y

@@ -6,26 +6,19 @@ use Prim.Native.Nat.{ℕ, _≤_, _<_}
 use mathlib.Core.Path.{_≡_}
 use mathlib.Core.Bool.{true}
 use mathlib.Core.List.{List}
-use mathlib.Core.Logic.{_↔_}
+use mathlib.Core.Logic.{_⊎_, _↔_}
 use lib.Dec.{eqb}
 use lib.IntN.{ℤ}
 use lib.ListN.{length}
 use Rattle.theory.specs.Lists.{those, member}
+use Rattle.theory.specs.Verdict.{First, Keep}
 use Rattle.program.specs.Tables.{Tables, modeCount, taskSupplier, taskWorst}
 use Rattle.runs.specs.Tick.{leftOf, Place, runsIn}
 use Rattle.runs.specs.Windows.{windowCount, winSupplier, winMode, winFrom, winTo}
 use Rattle.runs.specs.Round.{Course, Choice, begin, going, Good, WithinWorst, worstCase, Break, outside, late, FirstBreak, nothing}
 use Rattle.suppliers.specs.Windows.{windowsVerdict}
-use Rattle.suppliers.specs.Supplier.{Asked, supplierOf, courseOf, windowedOf, partVerdict, supplierVerdict}
-
--- Program and windows accepted, the part well-formed (1 to 13 do not apply): accepted exactly when, in every mode, reached or
--- not, and for every choice of an execution time from 1 to the worst case for every release, every tick in which the supplier
--- runs lies in one of its windows and every task has ended at each of its termination instants
-abbrev pub SupplierExact : Type 0
-SupplierExact =
-    (L : Asked) → partVerdict L ≡ 0
-    → (supplierVerdict L .number ≡ 0)
-    ↔ ((m : ℕ) → m < modeCount (L .tables) → (c : Choice) → WithinWorst (courseOf L m) c → Good (courseOf L m) c nothing)
+use Rattle.suppliers.specs.Schedule.{lastStatic}
+use Rattle.suppliers.specs.Supplier.{Asked, supplierOf, courseOf, windowedOf, partRules, supplierVerdict}
 
 -- The place is that of the run with all worst-case times: the lowest mode whose run breaks, and the first break in it
 pub record BreaksAt (L : Asked) (m : ℕ) (b : Break) : Type 0 where
@@ -33,12 +26,21 @@ pub record BreaksAt (L : Asked) (m : ℕ) (b : Break) : Type 0 where
   pub lower-good : (i : ℕ) → i < m → Good (courseOf L i) (worstCase (courseOf L i)) nothing
   pub first-break : FirstBreak (courseOf L m) (worstCase (courseOf L m)) nothing b
 
-pub record PlaceExact (L : Asked) : Type 0 where
-  pub outside-at : (m t : ℕ) → (supplierVerdict L ≡ record { number = 14; mode = m; tick = t }) ↔ BreaksAt L m (outside t)
-  pub late-at : (m t : ℕ) → (supplierVerdict L ≡ record { number = 15; mode = m; tick = t }) ↔ BreaksAt L m (late t)
-
-abbrev pub SupplierPlace : Type 0
-SupplierPlace = (L : Asked) → partVerdict L ≡ 0 → PlaceExact L
+-- What a supplier's verdict answers, the place included
+pub record SupplierExact (L : Asked) : Type 0 where
+  -- 1 to 13, without a place: the first of these rules that is broken
+  pub refused : (n : ℕ) → 1 ≤ n → n ≤ lastStatic → (supplierVerdict L ≡ record { number = n; mode = 0; tick = 0 }) ↔ First partRules L n
+  -- program and windows accepted, the part well-formed: accepted exactly when, in every mode, reached or not, and for every choice of an
+  -- execution time from 1 to the worst case for every release, every tick in which the supplier runs lies in one of its windows and every
+  -- task has ended at each of its termination instants
+  pub accepted : (supplierVerdict L ≡ record { number = 0; mode = 0; tick = 0 })
+      ↔ (Keep partRules L × ((m : ℕ) → m < modeCount (L .tables) → (c : Choice) → WithinWorst (courseOf L m) c → Good (courseOf L m) c nothing))
+  -- 14 and 15 exactly at their place
+  pub outside-at : (m t : ℕ) → (supplierVerdict L ≡ record { number = 14; mode = m; tick = t }) ↔ (Keep partRules L × BreaksAt L m (outside t))
+  pub late-at : (m t : ℕ) → (supplierVerdict L ≡ record { number = 15; mode = m; tick = t }) ↔ (Keep partRules L × BreaksAt L m (late t))
+  -- there is no other answer: "only 14 and 15 add a place, 0 and 0 otherwise"
+  pub only-these : ((supplierVerdict L .number ≤ lastStatic) × (supplierVerdict L .mode ≡ 0) × (supplierVerdict L .tick ≡ 0))
+      ⊎ ((supplierVerdict L .number ≡ 14) ⊎ (supplierVerdict L .number ≡ 15))
 
 -- The worst case decides because a shorter run is dominated. Two runs of unit k of a course, of choice c from the remaining times r
 -- and of choice d from q:

@@ -9,9 +9,9 @@ use lib.ListN.{length}
 use Rattle.theory.specs.Lists.{member}
 use Rattle.cells.specs.Cell.{numAt}
 use Rattle.program.specs.Ports.{valueOf}
-use Rattle.machine.specs.Advance.{Lent, Advance, advanceVerdict, advanceAnswer}
-use Rattle.machine.specs.Stops.{program}
-use Rattle.machine.specs.Uses.{lending, Agrees}
+use Rattle.machine.specs.Advance.{Lent, Advance, advanceAnswer}
+use Rattle.machine.specs.Comes.{Static, program}
+use Rattle.machine.specs.Uses.{lending, SameLengths, Agrees}
 
 -- the answer hangs on no more of what is lent than the lengths, the readings that E code takes, the times of the tasks that it comes to
 -- release, and the results of the task that completes
@@ -46,8 +46,4 @@ TasksOnly =
 -- an advance that is refused before it runs, by 1 to 13 or 21, uses nothing of what it is lent but the lengths
 abbrev pub RefusedUsesNone : Type 0
 RefusedUsesNone =
-    (L : Advance) (X : Lent) → 1 ≤ advanceVerdict L
-    → length (L .lent .readings) ≡ length (X .readings)
-    → length (L .lent .results) ≡ length (X .results)
-    → length (L .lent .times) ≡ length (X .times)
-    → advanceAnswer L ≡ advanceAnswer (lending L X)
+    (L : Advance) (X : Lent) → Static (advanceAnswer L .number) → SameLengths L X → advanceAnswer L ≡ advanceAnswer (lending L X)

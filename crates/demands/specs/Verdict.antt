@@ -13,7 +13,7 @@ use Rattle.program.specs.Program.{programOf}
 use Rattle.rules.specs.Verdict.{programVerdict, programRules}
 use Rattle.code.specs.Op.{instructions}
 use Rattle.code.specs.Listing.{lengthRule}
-use Rattle.code.specs.Compile.{Compiling, listingOf, compileVerdict, compileAnswer, compileSlice, wordsOf}
+use Rattle.code.specs.Compile.{Compiling, listingOf, compileAnswer, compileSlice, wordsOf}
 
 -- The verdict is n exactly where rule n is broken and no earlier one is; so it is 0 exactly where every rule holds
 abbrev pub VerdictExact : Type 0
@@ -37,8 +37,8 @@ pub record Compiles (L : Compiling) : Type 0 where
   pub same-length : length (compileSlice L) ≡ length (L .slice)
 
 abbrev pub ListingWritten : Type 0
-ListingWritten = (L : Compiling) → compileVerdict L ≡ 0 → Compiles L
+ListingWritten = (L : Compiling) → compileAnswer L .number ≡ 0 → Compiles L
 
 -- refused: nothing is written, and the length is 0
 abbrev pub RefusalKeeps : Type 0
-RefusalKeeps = (L : Compiling) → (compileVerdict L ≡ 0 → ⊥) → (compileSlice L ≡ L .slice) × (compileAnswer L .length ≡ 0)
+RefusalKeeps = (L : Compiling) → (compileAnswer L .number ≡ 0 → ⊥) → (compileSlice L ≡ L .slice) × (compileAnswer L .length ≡ 0)

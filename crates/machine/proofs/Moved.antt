@@ -21,16 +21,18 @@ use Rattle.program.proofs.Ports.{takes-at, takes-miss}
 use Rattle.runs.specs.Tick.{leftOf, run, after}
 use Rattle.machine.specs.declared.State.{State}
 use Rattle.machine.specs.declared.Advanced.{Advanced}
-use Rattle.machine.specs.Instant.{Outcome, ok, stop, Ends}
+use Rattle.machine.specs.Instant.{Outcome, ok, stop}
 use Rattle.machine.specs.Schedules.{Who, nobody, one, several, movedOf, running, outputsAfter, afterTick, ticked, tickAll}
 use Rattle.machine.specs.Advance.{Advance, advanceVerdict, answer, advanceAnswer}
-use Rattle.machine.specs.Stops.{program, code, begin, BeforeTick}
+use Rattle.machine.specs.Comes.{program, code, Returns, BeforeTick}
 use Rattle.machine.specs.Moves.{Works, Passes, InstantKeeps, Advances}
 use Rattle.machine.proofs.Outcomes.{ok-not-stop, finished}
 use Rattle.machine.proofs.Completing.{outputs-done, outputs-same}
-use Rattle.machine.proofs.Ready.{ready-leaves, step-leaves}
+use Rattle.machine.proofs.Ready.{step-leaves}
 use Rattle.machine.proofs.Answered.{outcome, advance-refused, advance-steps}
 use Rattle.machine.proofs.Refusals.{step-number}
+use Rattle.machine.proofs.Comes.{returns}
+use Rattle.machine.proofs.Stopped.{before-tick}
 use Rattle.machine.proofs.Kept.{instant-keeps}
 
 -- the remaining times after a tick of task t
@@ -101,7 +103,7 @@ tick-passes P S results s u = go (running S s) refl
 
 module _ (L : Advance) where
   -- an advance answers 0 only with what its step leaves
-  accepted : advanceAnswer L .number ≡ 0 → outcome L ≡ ok (advanceAnswer L .state)
+  pub accepted : advanceAnswer L .number ≡ 0 → outcome L ≡ ok (advanceAnswer L .state)
   accepted z = go (decLt 0 (advanceVerdict L))
     where
       end : (o : Outcome) → outcome L ≡ o → answer (L .state) o .number ≡ 0 → o ≡ ok (answer (L .state) o .state)
@@ -121,7 +123,7 @@ module _ (L : Advance) where
   before z =
       let w = step-leaves (program L) (code L) (L .schedule) (L .lent) (L .state) (advanceAnswer L .state) (accepted z) in (
         w .0,
-        ready-leaves (program L) (code L) (L .lent .readings) (L .lent .times) (L .state) (w .0) .0 (w .1),
+        before-tick L (w .0) .0 (w .1),
         tick-passes (program L) (L .schedule) (L .lent .results) (w .0) (advanceAnswer L .state) (w .2),
       )
 
@@ -132,13 +134,13 @@ module _ (L : Advance) where
       begun : (v : State) → BeforeTick L v
           → ((1 ≤ L .state .remaining) × (v ≡ L .state)) ⊎ ((L .state .remaining ≡ 0) × InstantKeeps (program L) (L .lent .times) (code L) (L .state) v)
       begun v (inl w) = inl w
-      begun v (inr w) = inr (w .0, instant-keeps (program L) (L .lent .readings) (L .lent .times) (code L) (L .state) v (w .1))
+      begun v (inr w) =
+          inr (w .reaches .no-tick-left, instant-keeps (program L) (L .lent .readings) (L .lent .times) (code L) (L .state) v (returns L v .0 w .1))
 
   -- and an instant of it came to its end within as many instructions as the code has
-  pub instant-counted : advanceAnswer L .number ≡ 0 → L .state .remaining ≡ 0
-      → (u : State) × Ends (program L) (L .lent .readings) (L .lent .times) (code L) (length (code L)) (begin L) u
+  pub instant-counted : advanceAnswer L .number ≡ 0 → L .state .remaining ≡ 0 → (u : State) × Returns L u
   instant-counted z r = let (v, b, p) = before z in (v, ends v b)
     where
-      ends : (v : State) → BeforeTick L v → Ends (program L) (L .lent .readings) (L .lent .times) (code L) (length (code L)) (begin L) v
+      ends : (v : State) → BeforeTick L v → Returns L v
       ends v (inl w) = absurd (omega (arith, w .0, r))
-      ends v (inr w) = w .1
+      ends v (inr w) = w

@@ -30,11 +30,12 @@ use Rattle.machine.specs.Instant as instant
 use Rattle.machine.specs.Instant.{Outcome, ok, stop, isReturn, refusalAt, Goes}
 use Rattle.machine.specs.Schedules.{Who, nobody, one, several, running, afterTick, ticked, tickAll}
 use Rattle.machine.specs.Advance.{Lent, Advance, advanceShapeBad, runRefusals, advanceVerdict, advanceAnswer, ready, answer}
-use Rattle.machine.specs.Stops.{program, code, begin}
-use Rattle.machine.specs.Uses.{Reaches, Reads, Releases, lending, Agrees}
+use Rattle.machine.specs.Comes.{program, code, begin, standing, FaultyAt}
+use Rattle.machine.specs.Uses.{Meets, Reads, Releases, lending, SameLengths, Agrees}
 use Rattle.machine.proofs.Instructions.{faulty-says}
 use Rattle.machine.proofs.Instants.{passes, at-return, at-refusal}
-use Rattle.machine.proofs.Ready.{ready-leaves}
+use Rattle.machine.proofs.Comes.{goes-comes}
+use Rattle.machine.proofs.Stopped.{before-tick}
 use Rattle.machine.proofs.Answered.{outcome, advance-refused, advance-steps}
 
 module _ (P : Program) (code : List Op) (readings others times times₂ : List ℤ) where
@@ -155,11 +156,11 @@ same-tick P S results others u h = go (running S u) refl
         ap (λ (v : List ℤ). ok (afterTick S u (after (run t) (u .left)) v)) (outputs t e (eqb (leftOf (u .left) t) 1) refl)
     go several e = refl
 
-module _ (L : Advance) (X : Lent) (A : Agrees L X) where
-  -- the lengths are the same, so the same numbers of the static verdict apply
+-- where the lengths are the same, so are the numbers that are given before anything runs
+module _ (L : Advance) (X : Lent) (l : SameLengths L X) where
   same-shape : advanceShapeBad L ≡ advanceShapeBad (lending L X)
   unfolding advanceShapeBad badLength
-  same-shape = rw (A .readings-length, A .results-length, A .times-length)
+  same-shape = rw (l .readings, l .results, l .times)
 
   same-verdict : advanceVerdict L ≡ advanceVerdict (lending L X)
   unfolding advanceVerdict
@@ -167,20 +168,26 @@ module _ (L : Advance) (X : Lent) (A : Agrees L X) where
       ap (λ (b : Bool). orElse b 1 (verdict (map (within (λ (K : Advance). K .tables)) (tableRefusals ++ (longRefusal ∷ [])) ++ runRefusals) L))
       same-shape
 
+  -- and the answer, where one of them applies
+  pub refused-same : 0 < advanceVerdict L → advanceAnswer L ≡ advanceAnswer (lending L X)
+  refused-same h = sym (advance-refused L (advanceVerdict L) refl h) ∙ advance-refused (lending L X) (advanceVerdict L) same-verdict h
+
+module _ (L : Advance) (X : Lent) (A : Agrees L X) where
   -- an instruction that the instant comes to uses the same
-  same-reached : advanceVerdict L ≡ 0 → L .state .remaining ≡ 0 → (n : ℕ) (b : At) → n < length (code L)
+  same-reached : L .state .remaining ≡ 0 → (n : ℕ) (b : At) → n < length (code L)
       → Goes (program L) (L .lent .readings) (L .lent .times) (code L) n (begin L) b
-      → (o : Op) → getD (code L) (b .address) faulty ≡ o
-      → (Faulty (program L) (length (code L)) (b .planned) o → ⊥)
-      → Same (program L) (code L) (L .lent .readings) (X .readings) (L .lent .times) (X .times) o
-  same-reached j z n b l g o e f = go o (record { judged = j; no-tick-left = z; before = n; at = b; in-count = l; comes = g; stands = e; not-faulty = f })
+      → (FaultyAt L b → ⊥)
+      → Same (program L) (code L) (L .lent .readings) (X .readings) (L .lent .times) (X .times) (standing L b)
+  same-reached z n b l g f =
+      go (standing L b)
+      (record { at = b; reaches = record { no-tick-left = z; before = n; in-count = l; comes = goes-comes L n b g }; stands = refl; not-faulty = f })
     where
-      named : (c : ℕ) → Reaches L (call c) → (k : Call) → callOf c ≡ k → SameCall (program L) (code L) (L .lent .readings) (X .readings) (L .lent .times) (X .times) k
+      named : (c : ℕ) → Meets L (call c) → (k : Call) → callOf c ≡ k → SameCall (program L) (code L) (L .lent .readings) (X .readings) (L .lent .times) (X .times) k
       named c r (driverCall d) e = tt
       named c r (outputCall t) e = tt
       named c r (sensorCall p) e = A .readings p (c, e, r)
 
-      go : (o : Op) → Reaches L o → Same (program L) (code L) (L .lent .readings) (X .readings) (L .lent .times) (X .times) o
+      go : (o : Op) → Meets L o → Same (program L) (code L) (L .lent .readings) (X .readings) (L .lent .times) (X .times) o
       go (call c) r = named c r (callOf c) refl
       go (schedule t) r = A .times t r
       go (branch d a) r = tt
@@ -190,9 +197,9 @@ module _ (L : Advance) (X : Lent) (A : Agrees L X) where
       go faulty r = tt
 
   -- the E part of the step
-  same-ready : advanceVerdict L ≡ 0
-      → ready (program L) (code L) (L .lent .readings) (L .lent .times) (L .state) ≡ ready (program L) (code L) (X .readings) (X .times) (L .state)
-  same-ready j = go (L .state .remaining) refl
+  same-ready :
+      ready (program L) (code L) (L .lent .readings) (L .lent .times) (L .state) ≡ ready (program L) (code L) (X .readings) (X .times) (L .state)
+  same-ready = go (L .state .remaining) refl
     where
       go : (n : ℕ) → L .state .remaining ≡ n
           → _≡_ {A = Outcome}
@@ -200,14 +207,14 @@ module _ (L : Advance) (X : Lent) (A : Agrees L X) where
           (elim n [ zero ↦ instant.runInstant (program L) (X .readings) (X .times) (code L) (L .state) | suc k ↦ ok (L .state) ])
       go zero z =
           same-run (program L) (code L) (L .lent .readings) (X .readings) (L .lent .times) (X .times) (length (code L)) (begin L)
-          (λ n b l g f. same-reached j z n b l g (getD (code L) (b .address) faulty) refl f)
+          (λ n b l g f. same-reached z n b l g f)
       go (suc n) z = refl
 
   -- the whole step
-  same-step : advanceVerdict L ≡ 0 → outcome L ≡ outcome (lending L X)
-  same-step j =
+  same-step : outcome L ≡ outcome (lending L X)
+  same-step =
       go (ready (program L) (code L) (L .lent .readings) (L .lent .times) (L .state)) refl
-      ∙ ap then (same-ready j)
+      ∙ ap then same-ready
     where
       then : Outcome → Outcome
       then o = elim o [ ok u ↦ tickAll (program L) (L .schedule) (X .results) u | stop n ↦ stop n ]
@@ -217,9 +224,8 @@ module _ (L : Advance) (X : Lent) (A : Agrees L X) where
       go (ok u) e =
           same-tick (program L) (L .schedule) (L .lent .results) (X .results) u
           (λ t p r q m. A .results t p (record {
-            judged = j;
             before-tick = u;
-            begins = ready-leaves (program L) (code L) (L .lent .readings) (L .lent .times) (L .state) u .0 e;
+            begins = before-tick L u .0 e;
             runs = r;
             last-tick = q;
           }) m)
@@ -232,11 +238,13 @@ module _ (L : Advance) (X : Lent) (A : Agrees L X) where
       go : (n : ℕ) → advanceVerdict L ≡ n → advanceAnswer L ≡ advanceAnswer (lending L X)
       go zero e =
           sym (advance-steps L e)
-          ∙ ap (answer (L .state)) (same-step e)
-          ∙ advance-steps (lending L X) (sym same-verdict ∙ e)
-      go (suc n) e =
-          sym (advance-refused L (suc n) (sym e) (omega arith))
-          ∙ advance-refused (lending L X) (suc n) (sym e ∙ same-verdict) (omega arith)
+          ∙ ap (answer (L .state)) same-step
+          ∙ advance-steps (lending L X) (sym (same-verdict L X (A .lengths)) ∙ e)
+      go (suc n) e = refused-same L X (A .lengths) (omega (arith, e))
+
+-- an instruction that is met is not faulty
+faulty-then : (L : Advance) (o : Op) (r : Meets L o) → Faulty (program L) (length (code L)) (r .at .planned) o → ⊥
+faulty-then L o r f = r .not-faulty (subst (Faulty (program L) (length (code L)) (r .at .planned)) (sym (r .stands)) f)
 
 module _ (L : Advance) where
   -- E code reads only declared sensors
@@ -245,12 +253,12 @@ module _ (L : Advance) where
     where
       go : (b : Bool) → member p (program L .sensors) ≡ b → b ≡ true
       go true m = refl
-      go false m = absurd (r .not-faulty (subst (NamesNothing (program L)) (sym e) m))
+      go false m = absurd (faulty-then L (call c) r (subst (NamesNothing (program L)) (sym e) m))
 
   -- and releases only declared tasks
   pub releases-declared : (t : ℕ) → Releases L t → t < length (program L .tasks)
-  releases-declared t r = omega (arith, r .not-faulty)
+  releases-declared t r = omega (arith, faulty-then L (schedule t) r)
 
   -- while a tick of the unit remains it does neither
-  pub reaches-none : 1 ≤ L .state .remaining → (o : Op) → Reaches L o → ⊥
-  reaches-none l o r = omega (arith, r .no-tick-left)
+  pub meets-none : 1 ≤ L .state .remaining → (o : Op) → Meets L o → ⊥
+  meets-none l o r = omega (arith, r .reaches .no-tick-left)

@@ -5,6 +5,7 @@ pub mod Instruction
 pub mod Instant
 pub mod Schedules
 pub mod Advance
-pub mod Stops
+pub mod Fresh
+pub mod Comes
 pub mod Moves
 pub mod Uses

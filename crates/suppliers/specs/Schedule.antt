@@ -19,6 +19,10 @@ use Rattle.code.specs.Op.{Op}
 use Rattle.code.specs.Compile.{listingOf, delayAt}
 use Rattle.runs.specs.Schedule.{scheduleCount, rowSupplier, rowAddress, rowKind, rowTask, rowTimeout, kindDispatch, kindIdle, Sorted}
 
+-- the last number that is given before anything runs, but for 21
+abbrev pub lastStatic : ℕ
+lastStatic = 13
+
 -- the timeout is within the delay, if there is one
 abbrev pub inDelay : Option ℕ → ℕ → Bool
 inDelay none timeout = false

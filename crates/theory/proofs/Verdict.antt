@@ -107,6 +107,20 @@ module _ {A : Type 0} where
       go true (suc n) d ih = refl
       go false n d ih = ih
 
+  -- each refusal's number is such a one
+  abbrev pub Among : (ℕ → Type 0) → List (Refusal A) → Type 0
+  Among N [] = Unit {0}
+  Among N (r ∷ rs) = N (r .number) × Among N rs
+
+  -- so is the verdict, where 0 is one too
+  pub verdict-among : (N : ℕ → Type 0) → N 0 → (rs : List (Refusal A)) (a : A) → Among N rs → N (verdict rs a)
+  verdict-among N z [] a w = z
+  verdict-among N z (r ∷ rs) a w = go (r .applies a) (verdict-among N z rs a (w .1))
+    where
+      go : (b : Bool) → N (verdict rs a) → N (orElse b (r .number) (verdict rs a))
+      go true ih = w .0
+      go false ih = ih
+
   -- where no test of the first list applies, the second list decides
   pub verdict-skip : (rs qs : List (Refusal A)) (a : A) → Clear rs a → verdict (rs ++ qs) a ≡ verdict qs a
   verdict-skip [] qs a c = refl

@@ -4,7 +4,7 @@ use Prim.Native.Nat.{ℕ, zero, suc, _≤_, _<_}
 use mathlib.Core.Path.{_≡_, refl, sym, ap, subst, _∙_}
 use mathlib.Core.Bool.{true}
 use mathlib.Core.List.{List, [], _∷_}
-use mathlib.Core.Logic.{inl, ⊎-elim}
+use mathlib.Core.Logic.{inl, inr, ⊎-elim}
 use native.Mathlib.Omega.{arith}
 use lib.IntN.{ℤ, pos}
 use lib.ListN.{length, replicate}
@@ -15,10 +15,11 @@ use Rattle.cells.specs.Cell.{numAt}
 use Rattle.cells.specs.Limits.{maxPorts, maxTasks}
 use Rattle.program.specs.Ports.{valueOf}
 use Rattle.machine.specs.declared.State.{State}
-use Rattle.machine.specs.Advance.{Advance, Lent, freshAnswer, advanceVerdict, advanceAnswer}
+use Rattle.machine.specs.Advance.{Advance, Lent, freshAnswer, advanceAnswer}
 use Rattle.machine.specs.Change.{withLeft}
-use Rattle.machine.specs.Stops.{program}
+use Rattle.machine.specs.Comes.{program}
 use Rattle.machine.specs.Uses.{Reads, Releases, Completes, lending}
+use Rattle.machine.proofs.Comes.{goes-comes}
 use Rattle.machine.proofs.Uses.{reads-sensor, releases-declared}
 use Rattle.demands.specs.Composed.{joined, code}
 use Rattle.demands.specs.Supplied.{lentTo}
@@ -51,12 +52,13 @@ first-reads = (
   2000,
   refl,
   record {
-    judged = refl;
-    no-tick-left = refl;
-    before = 4;
     at = _;
-    in-count = omega arith;
-    comes = (refl, refl, (refl, refl, (refl, refl, (refl, refl, refl))));
+    reaches = record {
+      no-tick-left = refl;
+      before = 4;
+      in-count = omega arith;
+      comes = goes-comes first 4 _ (refl, refl, (refl, refl, (refl, refl, (refl, refl, refl))));
+    };
     stands = refl;
     not-faulty = λ e. clash {b = true} refl e;
   },
@@ -65,12 +67,13 @@ first-reads = (
 first-releases : Releases first 0
 unfolding computed
 first-releases = record {
-  judged = refl;
-  no-tick-left = refl;
-  before = 7;
   at = _;
-  in-count = omega arith;
-  comes = (refl, refl, (refl, refl, (refl, refl, (refl, refl, (refl, refl, (refl, refl, (refl, refl, refl)))))));
+  reaches = record {
+    no-tick-left = refl;
+    before = 7;
+    in-count = omega arith;
+    comes = goes-comes first 7 _ (refl, refl, (refl, refl, (refl, refl, (refl, refl, (refl, refl, (refl, refl, (refl, refl, refl)))))));
+  };
   stands = refl;
   not-faulty = λ l. omega (arith, l);
 }
@@ -82,7 +85,7 @@ within = omega arith
 
 second-completes : Completes second 0
 unfolding computed
-second-completes = record { judged = refl; before-tick = second .state; begins = inl (within, refl); runs = refl; last-tick = refl }
+second-completes = record { before-tick = second .state; begins = inl (within, refl); runs = refl; last-tick = refl }
 
 -- F's one sensor and two tasks
 one-sensor : program first .sensors ≡ 0 ∷ []
@@ -129,9 +132,7 @@ module _ (rs ts : List ℤ) (r : length rs ≡ 63) (t : length ts ≡ 30) where
   pub F-first-uses : advanceAnswer first ≡ advanceAnswer (otherwise first otherReadings otherTimes)
   F-first-uses =
       used-only first _ (record {
-        readings-length = readings-long;
-        results-length = refl;
-        times-length = times-long;
+        lengths = record { readings = readings-long; results = refl; times = times-long };
         readings = λ p u. same-sensor p (reads-sensor first p u);
         times = λ k u. same-times k (releases-declared first k u);
         results = λ k p u m. refl;
@@ -146,7 +147,7 @@ F-second-uses rs ts r t = same-within second within rs ts (sym r) (sym t)
 abbrev far : Advance
 far = advance 0 (withLeft (freshAnswer (F 6 2) .state) (5000 ∷ replicate 31 0))
 
-far-refused : advanceVerdict far ≡ 21
+far-refused : advanceAnswer far .number ≡ 21
 unfolding computed
 far-refused = refl
 
@@ -156,4 +157,4 @@ far-results = refl
 
 pub F-far-uses : (X : Lent) → length (X .readings) ≡ maxPorts → length (X .results) ≡ maxPorts → length (X .times) ≡ maxTasks
     → advanceAnswer far ≡ advanceAnswer (lending far X)
-F-far-uses X r s t = refused-uses-none far X (omega (arith, far-refused)) (sym r) (far-results ∙ sym s) (sym t)
+F-far-uses X r s t = refused-uses-none far X (inr far-refused) (record { readings = sym r; results = far-results ∙ sym s; times = sym t })

@@ -1,0 +1,71 @@
+-- A fresh state's number is the program verdict's; refused, the state is all 0; accepted, it has the ports' first values and 0 elsewhere.
+-- Assumes nothing; of each state, that its number is given.
+use Prim.Native.Nat.{ℕ, _+_, _*_, _≤_, _<_}
+use mathlib.Core.Path.{_≡_, refl, sym, ap, subst, _∙_}
+use native.Mathlib.Decide.{decLt}
+use native.Mathlib.Omega.{arith}
+use lib.IntN.{pos}
+use lib.ListN.{length, List·getD-eq-default}
+use Rattle.theory.proofs.Lists.{each-length, each-at}
+use Rattle.cells.specs.Limits.{maxPorts}
+use Rattle.program.specs.Tables.{Tables, portWidth, portCount, portFirst}
+use Rattle.program.specs.Program.{programOf}
+use Rattle.program.specs.Ports.{valueOf}
+use Rattle.rules.specs.Shape.{Shaped}
+use Rattle.rules.specs.Verdict.{programVerdict}
+use Rattle.rules.proofs.Accepted.{accepted-shaped}
+use Rattle.machine.specs.declared.Advanced.{Advanced}
+use Rattle.machine.specs.Advance.{freshAnswer}
+use Rattle.machine.specs.Fresh.{FirstValues, Fresh, AllZero}
+use Rattle.machine.proofs.Answered.{fresh-refused, fresh-accepted}
+
+module _ (T : Tables) where
+  -- the number is the program verdict's
+  pub fresh-number : freshAnswer T .number ≡ programVerdict T
+  fresh-number = go (decLt 0 (programVerdict T))
+    where
+      go : Dec (0 < programVerdict T) → freshAnswer T .number ≡ programVerdict T
+      go (yes l) = sym (ap (λ (a : Advanced). a .number) (fresh-refused T (programVerdict T) refl l))
+      go (no l) =
+          let z : programVerdict T ≡ 0 = omega (arith, l) in sym (ap (λ (a : Advanced). a .number) (fresh-accepted T z)) ∙ sym z
+
+  -- refused, it is all 0
+  pub fresh-zero : (freshAnswer T .number ≡ 0 → ⊥) → AllZero (freshAnswer T .state)
+  fresh-zero h = go (decLt 0 (programVerdict T))
+    where
+      go : Dec (0 < programVerdict T) → AllZero (freshAnswer T .state)
+      go (yes l) = subst (λ (a : Advanced). AllZero (a .state)) (fresh-refused T (programVerdict T) refl l)
+          (record {
+            ports = refl;
+            outputs = refl;
+            rest = record { time = refl; pending = refl; current = refl; elapsed = refl; remaining = refl; left = refl; positions = refl };
+          })
+      go (no l) = absurd (h (fresh-number ∙ omega (arith, l)))
+
+  -- the first values of tables that have their shape
+  first-values : Shaped T → FirstValues T (programOf T .first)
+  first-values s = record {
+    all = each-length (portFirst T) maxPorts 0;
+    declared = λ p l. each-at (portFirst T) maxPorts p (pos 0) (omega (arith, s .ports .1, s .ports .2));
+    undeclared = λ p l. go p l (decLt p maxPorts);
+  }
+    where
+      go : (p : ℕ) → portCount T ≤ p → Dec (p < maxPorts) → valueOf (programOf T .first) p ≡ pos 0
+      go p l (yes h) =
+          let past : length (T .ports) ≤ p * portWidth + 1 = omega (arith, s .ports .1) in
+          each-at (portFirst T) maxPorts p (pos 0) h ∙ List·getD-eq-default (T .ports) (pos 0) past
+      go p l (no h) =
+          let past : length (programOf T .first) ≤ p = omega (arith, h, each-length (portFirst T) maxPorts 0) in
+          List·getD-eq-default (programOf T .first) (pos 0) past
+
+  -- accepted, it has the first values in the first two and 0 elsewhere
+  pub fresh-first : freshAnswer T .number ≡ 0 → Fresh T (freshAnswer T .state)
+  fresh-first e =
+      let z : programVerdict T ≡ 0 = sym fresh-number ∙ e in
+      let f = first-values (accepted-shaped T z) in
+      subst (λ (a : Advanced). Fresh T (a .state)) (fresh-accepted T z)
+      (record {
+        ports = f;
+        outputs = f;
+        rest = record { time = refl; pending = refl; current = refl; elapsed = refl; remaining = refl; left = refl; positions = refl };
+      })
