@@ -1,5 +1,5 @@
--- The numbers of the two calls: each its own 1, then what both ask, then a supplier's 13 and its run.
--- Assumes nothing; of what follows an accepted part, that its number is 0.
+-- The numbers of the two calls: each its own 1, then what both ask, then a supplier's 13.
+-- Assumes nothing.
 use Prim.Native.Nat.{ℕ, zero, suc, _<_}
 use mathlib.Core.Path.{_≡_, refl, sym, ap, _∙_}
 use mathlib.Core.Bool.{Bool, true, false}
@@ -11,11 +11,10 @@ use Rattle.rules.specs.Verdict.{programVerdict}
 use Rattle.code.specs.Compile.{CodeFits}
 use Rattle.lent.specs.Tables.{lentVerdict}
 use Rattle.lent.proofs.Asked.{lent-first, lent-none}
-use Rattle.suppliers.specs.declared.Answer.{Answer}
 use Rattle.suppliers.specs.Windows.{Windowed, windowsBad, windowsShapeBad, windowRefusals, windowsVerdict}
 use Rattle.suppliers.specs.Schedule.{partBad}
-use Rattle.suppliers.specs.Supplier.{Asked, supplierOf, windowedOf, partShapeBad, ownRefusals, partVerdict, judged, supplierVerdict}
-use Rattle.acceptance.specs.Lent.{shapedVerdict, refusal}
+use Rattle.suppliers.specs.Supplier.{Asked, supplierOf, windowedOf, partShapeBad, ownRefusals, partVerdict}
+use Rattle.acceptance.specs.Lent.{shapedVerdict}
 
 -- the windows verdict: 1, then what both calls ask
 pub windows-number : (L : Windowed) → windowsVerdict L ≡ orElse (windowsShapeBad L) 1 (shapedVerdict L)
@@ -58,16 +57,3 @@ module _ (L : Asked) where
     pub part-own : shapedVerdict (windowedOf L) ≡ 0 → partVerdict L ≡ orElse (partBad (L .tables) (L .part) (supplierOf L)) 13 0
     part-own e =
         part-number L ∙ or-else-no 1 _ s ∙ ap (λ (k : ℕ). after k (orElse (partBad (L .tables) (L .part) (supplierOf L)) 13 0)) e
-
--- a number up to 13 is the answer's
-pub supplier-refused : (L : Asked) (n : ℕ) → partVerdict L ≡ n → (n ≡ 0 → ⊥) → refusal n ≡ supplierVerdict L
-unfolding supplierVerdict
-supplier-refused L zero e d = absurd (d refl)
-supplier-refused L (suc n) e d =
-    ap (λ (v : ℕ). elim v as (λ v. Answer) [ zero ↦ judged L | suc k ↦ refusal (suc k) ]) (sym e)
-
--- without one the run decides
-pub supplier-judged : (L : Asked) → partVerdict L ≡ 0 → judged L ≡ supplierVerdict L
-unfolding supplierVerdict
-supplier-judged L e =
-    ap (λ (v : ℕ). elim v as (λ v. Answer) [ zero ↦ judged L | suc k ↦ refusal (suc k) ]) (sym e)

@@ -1,8 +1,8 @@
--- Demand 1, as statements about what the calls return: a refusal carries the number that document 01 gives, under exactly the condition
--- given there. For each call that judges, its number is n exactly where rule n of that call is broken and no earlier one is; what a refused
--- or accepted call hands back beside its number is stated too. (That a call ends, does nothing undefined and leaves lent memory as it says
--- is what the check of its function shows.) The program verdict and compiling's slice are in Verdict.antt, a supplier's verdict in
--- Supplier.antt, 16 to 20 in Machine.antt. Proved in proofs/Calls.antt. Assumes nothing.
+-- Demand 1, as statements about what the calls return: a refusal carries the number that document 01 gives, under exactly the
+-- condition given there. For each call that judges, its number is n exactly where rule n of that call is broken and no earlier one is;
+-- what an advance and a fresh state hand back beside it is stated too. (That a call ends, does nothing undefined and leaves lent memory
+-- as it says is what the check of its function shows.) The program verdict and compiling's slice are in Verdict.antt, a supplier's
+-- verdict in Supplier.antt, 16 to 20 in Machine.antt. Proved in proofs/Calls.antt. Assumes nothing.
 use Prim.Native.Nat.{ℕ}
 use mathlib.Core.Path.{_≡_}
 use mathlib.Core.Logic.{_⊎_, _↔_}

@@ -1,6 +1,6 @@
--- Demand 1 for the machine, as statements about what an advance returns: each of 16 to 20 under exactly its condition, order included; what
--- an accepted advance changes, and how long its instant may be. (The numbers before anything runs, and that a refusal hands the state back:
--- `AdvanceExact` in Calls.antt.) Proved in proofs/Machine.antt. Assumes nothing.
+-- Demand 1 for the machine, as statements about what an advance returns: each of 16 to 20 under exactly its condition, order included;
+-- what an accepted advance changes, and how long its instant may be. (The numbers before anything runs, and that a refusal hands the
+-- state back: `AdvanceExact` in Calls.antt.) Proved in proofs/Machine.antt. Assumes nothing.
 use Prim.Native.Nat.{_+_, _/_, _%_, _^_, _<_}
 use mathlib.Core.Path.{_≡_}
 use mathlib.Core.Logic.{_↔_}

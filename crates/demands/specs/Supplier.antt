@@ -30,14 +30,16 @@ pub record BreaksAt (L : Asked) (m : ℕ) (b : Break) : Type 0 where
 pub record SupplierExact (L : Asked) : Type 0 where
   -- 1 to 13, without a place: the first of these rules that is broken
   pub refused : (n : ℕ) → 1 ≤ n → n ≤ lastStatic → (supplierVerdict L ≡ record { number = n; mode = 0; tick = 0 }) ↔ First partRules L n
-  -- program and windows accepted, the part well-formed: accepted exactly when, in every mode, reached or not, and for every choice of an
-  -- execution time from 1 to the worst case for every release, every tick in which the supplier runs lies in one of its windows and every
-  -- task has ended at each of its termination instants
+  -- program and windows accepted, the part well-formed: accepted exactly when, in every mode, reached or not, and for every choice of
+  -- an execution time from 1 to the worst case for every release, every tick in which the supplier runs lies in one of its windows
+  -- and every task has ended at each of its termination instants
   pub accepted : (supplierVerdict L ≡ record { number = 0; mode = 0; tick = 0 })
       ↔ (Keep partRules L × ((m : ℕ) → m < modeCount (L .tables) → (c : Choice) → WithinWorst (courseOf L m) c → Good (courseOf L m) c nothing))
   -- 14 and 15 exactly at their place
-  pub outside-at : (m t : ℕ) → (supplierVerdict L ≡ record { number = 14; mode = m; tick = t }) ↔ (Keep partRules L × BreaksAt L m (outside t))
-  pub late-at : (m t : ℕ) → (supplierVerdict L ≡ record { number = 15; mode = m; tick = t }) ↔ (Keep partRules L × BreaksAt L m (late t))
+  pub outside-at : (m t : ℕ)
+      → (supplierVerdict L ≡ record { number = 14; mode = m; tick = t }) ↔ (Keep partRules L × BreaksAt L m (outside t))
+  pub late-at : (m t : ℕ)
+      → (supplierVerdict L ≡ record { number = 15; mode = m; tick = t }) ↔ (Keep partRules L × BreaksAt L m (late t))
   -- there is no other answer: "only 14 and 15 add a place, 0 and 0 otherwise"
   pub only-these : ((supplierVerdict L .number ≤ lastStatic) × (supplierVerdict L .mode ≡ 0) × (supplierVerdict L .tick ≡ 0))
       ⊎ ((supplierVerdict L .number ≡ 14) ⊎ (supplierVerdict L .number ≡ 15))

@@ -2,7 +2,7 @@
 -- runs, with the state as it was, or what its step comes to.
 -- Assumes nothing.
 use Prim.Native.Nat.{ℕ, zero, suc, _<_}
-use mathlib.Core.Path.{_≡_, sym, ap}
+use mathlib.Core.Path.{_≡_, sym}
 use native.Mathlib.Omega.{arith}
 use lib.IntN.{pos}
 use lib.ListN.{replicate}
@@ -11,45 +11,33 @@ use Rattle.program.specs.Tables.{Tables}
 use Rattle.program.specs.Program.{programOf}
 use Rattle.rules.specs.Verdict.{programVerdict}
 use Rattle.code.specs.Op.{instructions}
-use Rattle.machine.specs.declared.Advanced.{Advanced}
 use Rattle.machine.specs.Instant.{Outcome}
 use Rattle.machine.specs.Advance.{stateOf, freshAnswer, Advance, step, answer, advanceVerdict, advanceAnswer}
 
 module _ (T : Tables) where
-  -- what a fresh state is where the verdict is n
-  abbrev begun : ℕ → Advanced
-  begun n = elim n [
-    | zero ↦ record { number = 0; state = stateOf (programOf T .first) }
-    | suc k ↦ record { number = suc k; state = stateOf (replicate maxPorts (pos 0)) }
-  ]
-
   -- a program that is refused: all 0
   pub fresh-refused : (n : ℕ) → n ≡ programVerdict T → 0 < n → record { number = n; state = stateOf (replicate maxPorts (pos 0)) } ≡ freshAnswer T
   unfolding freshAnswer
   fresh-refused zero e l = absurd (omega arith)
-  fresh-refused (suc n) e l = ap begun e
+  fresh-refused (suc n) e l = rw (sym e, freshAnswer)
 
   -- one that is accepted: the first values
   pub fresh-accepted : programVerdict T ≡ 0 → record { number = 0; state = stateOf (programOf T .first) } ≡ freshAnswer T
   unfolding freshAnswer
-  fresh-accepted e = ap begun (sym e)
+  fresh-accepted e = rw (e, freshAnswer)
 
 module _ (L : Advance) where
   -- what an advance runs
   abbrev pub outcome : Outcome
   outcome = step (programOf (L .tables)) (instructions (L .code)) (L .schedule) (L .lent) (L .state)
 
-  -- its answer where the number is n
-  abbrev numbered : ℕ → Advanced
-  numbered n = elim n [ zero ↦ answer (L .state) outcome | suc k ↦ record { number = suc k; state = L .state } ]
-
   -- a number before anything runs: the state as it was
   pub advance-refused : (n : ℕ) → n ≡ advanceVerdict L → 0 < n → record { number = n; state = L .state } ≡ advanceAnswer L
   unfolding advanceAnswer
   advance-refused zero e l = absurd (omega arith)
-  advance-refused (suc n) e l = ap numbered e
+  advance-refused (suc n) e l = rw (sym e, advanceAnswer)
 
   -- none: the step
   pub advance-steps : advanceVerdict L ≡ 0 → answer (L .state) outcome ≡ advanceAnswer L
   unfolding advanceAnswer
-  advance-steps e = ap numbered (sym e)
+  advance-steps e = rw (e, advanceAnswer)

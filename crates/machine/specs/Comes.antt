@@ -1,6 +1,6 @@
--- What an advance that 1 to 13 and 21 pass comes to, in document 01's words: from where its instant begins, instruction by instruction, to
--- a `return` and a tick, or to a refusal with one of 16 to 20. "Only executed instructions count"; "at one instruction the order is 20, 19,
--- 16, 17"; "running off the end is 19, never 20". Assumes nothing.
+-- What an advance that 1 to 13 and 21 pass comes to, in document 01's words: from where its instant begins, instruction by instruction,
+-- to a `return` and a tick, or to a refusal with one of 16 to 20. "Only executed instructions count"; "at one instruction the order is
+-- 20, 19, 16, 17"; "running off the end is 19, never 20". Assumes nothing.
 use Prim.Native.Nat.{ℕ, zero, suc, _≤_, _<_}
 use mathlib.Core.Path.{_≡_}
 use mathlib.Core.Bool.{false}

@@ -56,7 +56,7 @@ module _ (P : Program) (readings times : List ℤ) (code : List Op) where
   abbrev pub runInstant : State → Outcome
   runInstant s = run (length code) (startAt s)
 
-  -- The same as claims: n instructions, none refused and none a `return`, lead from a to b
+  -- The same over the tests (in document 01's words: Comes.antt): n instructions, none refused and none a `return`, lead from a to b
   abbrev pub Goes : ℕ → At → At → Type 0
   Goes zero a b = a ≡ b
   Goes (suc n) a b = (refusalAt a ≡ 0) × (isReturn (fetch a) ≡ false) × Goes n (executes P readings times (fetch a) a) b

@@ -24,20 +24,16 @@ break-placed i (outside t) d = inr (inl refl)
 break-placed i (late t) d = inr (inr refl)
 
 module _ (L : Asked) where
-  -- the answer where the number of 1 to 13 is n
-  abbrev numbered : ℕ → Answer
-  numbered n = elim n as (λ n. Answer) [ zero ↦ judged L | suc k ↦ record { number = suc k; mode = 0; tick = 0 } ]
-
   -- a number of 1 to 13 is the answer's, without a place
   pub supplier-refused : (n : ℕ) → partVerdict L ≡ n → (n ≡ 0 → ⊥) → record { number = n; mode = 0; tick = 0 } ≡ supplierVerdict L
   unfolding supplierVerdict
   supplier-refused zero e d = absurd (d refl)
-  supplier-refused (suc n) e d = ap numbered (sym e)
+  supplier-refused (suc n) e d = rw (e, supplierVerdict)
 
   -- without one the run decides
   pub supplier-judged : partVerdict L ≡ 0 → judged L ≡ supplierVerdict L
   unfolding supplierVerdict
-  supplier-judged e = ap numbered (sym e)
+  supplier-judged e = rw (e, supplierVerdict)
 
   -- there are no other numbers before the run
   part-few : partVerdict L ≤ lastStatic

@@ -57,12 +57,12 @@ pub F-part : partVerdict F-asked ≡ 0
 unfolding computed
 F-part = refl
 
-F-answer : supplierVerdict F-asked .number ≡ 0
+F-answer : supplierVerdict F-asked ≡ record { number = 0; mode = 0; tick = 0 }
 unfolding computed
 F-answer = refl
 
 pub F-good : (c : Choice) → WithinWorst (courseOf F-asked 0) c → Good (courseOf F-asked 0) c nothing
-F-good c f = supplier-exact F-asked F-part .0 F-answer 0 (omega arith) c f
+F-good c f = supplier-exact F-asked .accepted .0 F-answer .1 0 (omega arith) c f
 
 -- domination from other remaining times than none: t1 has one tick left in the shorter run, and two in the longer
 less-left : (j : ℕ) → leftOf (1 ∷ []) j ≤ leftOf (2 ∷ []) j

@@ -6,6 +6,8 @@ pub mod Instances
 pub mod Listings
 pub mod Walk
 pub mod Advances
+pub mod Refused
+pub mod Answers
 pub mod Composed
 pub mod Pair
 pub mod Uses

@@ -3,15 +3,14 @@ use Prim.Native.Nat.{ℕ}
 use mathlib.Core.Path.{_≡_, refl}
 use mathlib.Core.Bool.{false}
 use mathlib.Core.List.{List, [], _∷_}
-use lib.IntN.{pos, negsuc}
+use lib.IntN.{ℤ, pos, negsuc}
 use lib.ListN.{length}
 use Rattle.cells.specs.Reading.{noReading, inside}
 use Rattle.program.specs.Units.{units}
 use Rattle.rules.specs.Verdict.{programVerdict}
 use Rattle.code.specs.Op.{call, schedule, jump, future, return}
 use Rattle.code.specs.Compile.{listingOf}
-use Rattle.suppliers.specs.Supplier.{supplierVerdict}
-use Rattle.suppliers.specs.declared.Answer.{Answer}
+use Rattle.suppliers.specs.Supplier.{Asked, supplierVerdict}
 use Rattle.worked.specs.Computed.{computed}
 use Rattle.worked.specs.Programs.{F, bare, updated, guarded, intervalRow, switching, window}
 use Rattle.worked.specs.Programs as programs
@@ -99,26 +98,25 @@ task-3-switch-2 = refl
 
 -- F, one supplier, t2 worst 2, both blocks dispatch t2 then t1 unless it says so, all timeouts 5: the answer for these
 -- worst-case times of t1, window and order
-answer : ℕ → List lib.IntN.ℤ → List lib.IntN.ℤ → Answer
-answer worst1 windows part =
-    supplierVerdict (record { tables = F worst1 2; windows = windows; part = part; supplier = pos 0 })
+abbrev pub asked : ℕ → List ℤ → List ℤ → Asked
+asked worst1 windows part = record { tables = F worst1 2; windows = windows; part = part; supplier = pos 0 }
 
 -- t1 worst 6 passes
-t1-worst-6 : answer 6 (window 0 10) (programs.schedule 1 0) ≡ record { number = 0; mode = 0; tick = 0 }
-unfolding computed answer
+pub t1-worst-6 : supplierVerdict (asked 6 (window 0 10) (programs.schedule 1 0)) ≡ record { number = 0; mode = 0; tick = 0 }
+unfolding computed
 t1-worst-6 = refl
 
 -- t1 worst 7: 15 at tick 10
-t1-worst-7 : answer 7 (window 0 10) (programs.schedule 1 0) ≡ record { number = 15; mode = 0; tick = 10 }
-unfolding computed answer
+pub t1-worst-7 : supplierVerdict (asked 7 (window 0 10) (programs.schedule 1 0)) ≡ record { number = 15; mode = 0; tick = 10 }
+unfolding computed
 t1-worst-7 = refl
 
 -- t1 worst 6, window 0..9: 14 at tick 9
-window-to-9 : answer 6 (window 0 9) (programs.schedule 1 0) ≡ record { number = 14; mode = 0; tick = 9 }
-unfolding computed answer
+pub window-to-9 : supplierVerdict (asked 6 (window 0 9) (programs.schedule 1 0)) ≡ record { number = 14; mode = 0; tick = 9 }
+unfolding computed
 window-to-9 = refl
 
 -- t1 first, t1 worst 4: 15 at tick 5
-t1-first : answer 4 (window 0 10) (programs.schedule 0 1) ≡ record { number = 15; mode = 0; tick = 5 }
-unfolding computed answer
+pub t1-first : supplierVerdict (asked 4 (window 0 10) (programs.schedule 0 1)) ≡ record { number = 15; mode = 0; tick = 5 }
+unfolding computed
 t1-first = refl

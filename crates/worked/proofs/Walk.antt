@@ -5,20 +5,18 @@ use mathlib.Core.Bool.{false}
 use mathlib.Core.List.{List}
 use native.Mathlib.Omega.{arith}
 use lib.IntN.{ℤ}
-use lib.ListN.{length, replicate}
-use Rattle.cells.specs.Limits.{maxCode}
+use lib.ListN.{length}
 use Rattle.program.specs.Tables.{modeCount}
 use Rattle.program.specs.Program.{programOf}
-use Rattle.code.specs.Compile.{listingOf}
-use Rattle.layout.specs.Delays.{marked}
 use Rattle.layout.specs.Layout.{startIn}
 use Rattle.runs.specs.Schedule.{scheduleCount, reaches, reach, Sorted, Behind, found, spanOf, rowsOf, blockOf}
 use Rattle.runs.specs.Round.{worstBreak, nothing}
 use Rattle.runs.proofs.Blocks.{behind-none, behind-later, found-behind, block-found}
-use Rattle.suppliers.specs.Schedule.{Tabled, partBad}
+use Rattle.suppliers.specs.Schedule.{partBad, joinedBad}
+use Rattle.suppliers.specs.Delays.{countedDelays, partBadBy, joinedBadBy}
 use Rattle.suppliers.specs.Supplier.{answerFrom, judged}
 use Rattle.suppliers.proofs.Schedule.{part-bars}
-use Rattle.suppliers.proofs.Delays.{table-says}
+use Rattle.suppliers.proofs.Delays.{part-counted, joined-counted}
 use Rattle.rounds.specs.Course.{courseOn}
 use Rattle.rounds.proofs.Courses.{judged-counted}
 use Rattle.worked.specs.Computed.{computed}
@@ -53,9 +51,12 @@ second-block =
     let n : scheduleCount rows ≡ 4 = refl in
     block-found rows 0 15 (found rows 0 0 9 .end) in-order (omega (arith, first-end)) behind
 
--- the table of F's delays
-pub F-delays : Tabled (F 6 2) (marked (listingOf (F 6 2)) 0 (replicate maxCode 0))
-F-delays = table-says (F 6 2) F-verdict (omega (arith, F-length))
+-- F's part is held against its counted delays as against its listing; so is the schedule of its only part
+pub F-delays : partBadBy (F 6 2) (countedDelays (F 6 2)) rows 0 ≡ partBad (F 6 2) rows 0
+F-delays = part-counted (F 6 2) F-verdict (omega (arith, F-length)) rows 0
+
+pub F-joined-delays : joinedBadBy (F 6 2) (countedDelays (F 6 2)) rows ≡ joinedBad (F 6 2) rows
+F-joined-delays = joined-counted (F 6 2) F-verdict (omega (arith, F-length)) rows
 
 -- F's run, as it is counted from the tables with its one sensor
 one-sensor : 1 ≡ length (programOf (F 6 2) .sensors)

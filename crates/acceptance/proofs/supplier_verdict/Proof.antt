@@ -27,10 +27,11 @@ use Rattle.suppliers.specs.Schedule.{partBad}
 use Rattle.suppliers.specs.Supplier.{Asked, supplierOf, windowedOf, answerFrom, partShapeBad, partVerdict}
 use Rattle.suppliers.proofs.Schedule.{part-bars}
 use Rattle.suppliers.proofs.Accepted.{windows-shaped, part-shaped}
+use Rattle.suppliers.proofs.Answers.{supplier-refused, supplier-judged}
 use Rattle.rounds.specs.Course.{courseOn}
 use Rattle.rounds.proofs.Courses.{judged-counted}
 use Rattle.acceptance.specs.Lent.{windowed, asked, shapedVerdict}
-use Rattle.acceptance.proofs.Calls.{shaped-accepted, part-one, part-given, part-own, supplier-refused, supplier-judged}
+use Rattle.acceptance.proofs.Calls.{shaped-accepted, part-one, part-given, part-own}
 use Rattle.acceptance.proofs.supplier_verdict.Statement.{statement}
 use Rattle.acceptance.proofs.supplier_verdict.Tie as tie
 
