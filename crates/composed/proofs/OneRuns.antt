@@ -9,7 +9,7 @@ use lib.IntN.{ℤ}
 use Rattle.cells.specs.Limits.{suppliers}
 use Rattle.program.specs.Tables.{Tables}
 use Rattle.program.specs.Program.{Program, programOf, mode, ticksOf}
-use Rattle.runs.specs.Tick.{runs, runsIn}
+use Rattle.runs.specs.Tick.{runsIn}
 use Rattle.runs.specs.Windows.{inWindow, InWindow}
 use Rattle.runs.specs.Schedule.{blockOf}
 use Rattle.runs.proofs.Tick.{tick-runs}
@@ -18,7 +18,7 @@ use Rattle.suppliers.proofs.Windows.{windows-one}
 use Rattle.suppliers.proofs.Dispatched.{own-rows}
 use Rattle.giotto.specs.Instant.{Configuration, Function}
 use Rattle.machine.specs.declared.State.{State}
-use Rattle.machine.specs.Schedules.{several, placeOf, actOf, running}
+use Rattle.machine.specs.Schedules.{several, placeOf, running, runsNow}
 use Rattle.machine.proofs.Collide.{collides}
 use Rattle.composed.specs.Sound.{Sound}
 use Rattle.composed.specs.Related.{OwnedBy, worstRun, Going}
@@ -33,7 +33,7 @@ module _ (T : Tables) (W S : List ℤ) (F : Function) (sound : Sound T W S) (k n
   now = k * ticksOf (mode P (C .mode)) + u .elapsed
 
   -- who runs, runs in its window
-  inside : (j : ℕ) → j < suppliers → runs (actOf S u j) ≡ true → inWindow W j (C .mode) now ≡ true
+  inside : (j : ℕ) → j < suppliers → runsNow S u j ≡ true → inWindow W j (C .mode) now ≡ true
   inside j l r =
       let d = worstRun T W S F j (C .mode) k (u .elapsed) in
       let e = tick-runs (OwnedBy P j) (blockOf S j (u .current)) (u .elapsed) (placeOf S u j) d
@@ -41,12 +41,12 @@ module _ (T : Tables) (W S : List ℤ) (F : Function) (sound : Sound T W S) (k n
       sound .good j (C .mode) l (h .declared) .inside k (u .elapsed) (h .in-round) (omega (arith, h .ticks))
       (subst (λ (a : ℕ). runsIn (blockOf S j a) (u .elapsed) d ≡ true) (h .current) e)
 
-  pub windows-kept : (j : ℕ) → j < suppliers → runs (actOf S u j) ≡ true
+  pub windows-kept : (j : ℕ) → j < suppliers → runsNow S u j ≡ true
       → InWindow W j (C .mode) (k * ticksOf (mode P (C .mode)) + u .elapsed)
   windows-kept j l r = in-window-says W j (C .mode) now .yes (inside j l r)
 
   -- two that run are one
-  pub one-runs : (i j : ℕ) → i < suppliers → j < suppliers → runs (actOf S u i) ≡ true → runs (actOf S u j) ≡ true → i ≡ j
+  pub one-runs : (i j : ℕ) → i < suppliers → j < suppliers → runsNow S u i ≡ true → runsNow S u j ≡ true → i ≡ j
   one-runs i j p q x y =
       windows-one (record { tables = T; windows = W }) (sound .windows) i j (C .mode) now (inside i p x) (inside j q y)
 

@@ -19,14 +19,14 @@ use Rattle.program.specs.Ports.{valueOf, valuesOf}
 use Rattle.program.proofs.Decoded.{output-declared}
 use Rattle.rules.proofs.Shape.{ports-few}
 use Rattle.rules.proofs.Accepted.{accepted-shaped}
-use Rattle.runs.specs.Tick.{leftOf, Act, run, runs, after}
+use Rattle.runs.specs.Tick.{leftOf, Act, run, after}
 use Rattle.runs.specs.Schedule.{blockOf}
 use Rattle.runs.proofs.Tick.{tick-busy, after-less, rests}
 use Rattle.giotto.specs.Instant.{Configuration, Function, results}
 use Rattle.giotto.proofs.Due.{tasks-one}
 use Rattle.machine.specs.declared.State.{State}
 use Rattle.machine.specs.Instant.{ok}
-use Rattle.machine.specs.Schedules.{Who, nobody, one, several, placeOf, actOf, running, outputsAfter, afterTick, ticked, tickAll}
+use Rattle.machine.specs.Schedules.{Who, nobody, one, several, placeOf, actOf, running, outputsAfter, afterTick, ticked, tickAll, runsNow}
 use Rattle.machine.specs.Moves.{Worked, Works}
 use Rattle.machine.proofs.Collide.{Known, known}
 use Rattle.machine.proofs.Completing.{outputs-length}
@@ -42,14 +42,14 @@ module _ (T : Tables) (W S : List ℤ) (F : Function) (sound : Sound T W S) (k n
   P = programOf T
 
   -- a tick in which nobody runs
-  nobody-ticked : ((j : ℕ) → j < suppliers → runs (actOf S u j) ≡ false) → Going T W S F k (suc n) C (afterTick S u (u .left) (u .outputs))
+  nobody-ticked : ((j : ℕ) → j < suppliers → runsNow S u j ≡ false) → Going T W S F k (suc n) C (afterTick S u (u .left) (u .outputs))
   nobody-ticked none =
       passing T W S F sound k n C u h more (u .left) (u .outputs) (h .all-left) (h .all-outputs) (λ t. omega arith)
       (λ j l t o. let e = ap (λ (r : List ℕ). leftOf r t) (rests (actOf S u j) (u .left) (none j l)) in omega (arith, e))
       (h .held)
 
   -- a tick in which task t of supplier i runs
-  module _ (t i : ℕ) (l : i < suppliers) (q : actOf S u i ≡ run t) (only : (j : ℕ) → j < suppliers → runs (actOf S u j) ≡ true → j ≡ i)
+  module _ (t i : ℕ) (l : i < suppliers) (q : actOf S u i ≡ run t) (only : (j : ℕ) → j < suppliers → runsNow S u j ≡ true → j ≡ i)
       (e : running S u ≡ one t)
       (fits : (p : ℕ) → leftOf (u .left) t ≡ 1 → member p (task P t .outputs) ≡ true
       → valueOf given p ≡ F t (valuesOf (u .ports) (task P t .inputs)) p) where
@@ -72,9 +72,9 @@ module _ (T : Tables) (W S : List ℤ) (F : Function) (sound : Sound T W S) (k n
 
     -- no supplier's tasks owe more than after the supplier's own act
     own : (j : ℕ) → j < suppliers → (x : ℕ) → leftOf (after (run t) (u .left)) x ≤ leftOf (after (actOf S u j) (u .left)) x
-    own j m x = go (runs (actOf S u j)) refl
+    own j m x = go (runsNow S u j) refl
       where
-        go : (b : Bool) → runs (actOf S u j) ≡ b → leftOf (after (run t) (u .left)) x ≤ leftOf (after (actOf S u j) (u .left)) x
+        go : (b : Bool) → runsNow S u j ≡ b → leftOf (after (run t) (u .left)) x ≤ leftOf (after (actOf S u j) (u .left)) x
         go true z =
             let a : actOf S u j ≡ run t = ap (actOf S u) (only j m z) ∙ q in
             let b = ap (λ (a : Act). leftOf (after a (u .left)) x) a in omega (arith, b)

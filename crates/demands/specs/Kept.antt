@@ -6,11 +6,10 @@ use mathlib.Core.Bool.{true}
 use Rattle.cells.specs.Limits.{suppliers}
 use Rattle.program.specs.Program.{Program, programOf, mode, ticksOf, nextUnit}
 use Rattle.code.specs.Op.{instructions}
-use Rattle.runs.specs.Tick.{runs}
 use Rattle.runs.specs.Windows.{InWindow}
 use Rattle.giotto.specs.Instant.{Configuration, Function}
 use Rattle.machine.specs.Instant.{Outcome, ok}
-use Rattle.machine.specs.Schedules.{actOf}
+use Rattle.machine.specs.Schedules.{runsNow}
 use Rattle.machine.specs.Advance.{Lent, ready}
 use Rattle.machine.specs.declared.State.{State}
 use Rattle.demands.specs.Composed.{System, Accepted, joined, code, stateAt, configurationAt, Fair}
@@ -45,4 +44,4 @@ WindowsKept =
     (Y : System) → Accepted Y → (F : Function) (lents : ℕ → Lent) (n : ℕ) → ((k : ℕ) → k ≤ n → Fair Y F lents k)
     → ((u : State) × (readyAt Y lents n ≡ ok u))
     × ((u : State) → readyAt Y lents n ≡ ok u
-    → (s : ℕ) → s < suppliers → runs (actOf (joined Y) u s) ≡ true → TickInWindow Y F lents n s)
+    → (s : ℕ) → s < suppliers → runsNow (joined Y) u s ≡ true → TickInWindow Y F lents n s)

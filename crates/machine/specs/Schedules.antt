@@ -2,7 +2,7 @@
 -- "A completing task puts its entries of the lent results into its local outputs". Assumes nothing.
 use Prim.Native.Nat.{ℕ, zero, suc, _+_, _-_, _%_, _^_, _<_}
 use mathlib.Core.Path.{_≡_}
-use mathlib.Core.Bool.{true, false}
+use mathlib.Core.Bool.{Bool, true, false}
 use mathlib.Core.List.{List}
 use lib.Dec.{eqb}
 use lib.IntN.{ℤ}
@@ -12,7 +12,7 @@ use Rattle.cells.specs.Limits.{suppliers}
 use Rattle.program.specs.Tables.{Tables, output}
 use Rattle.program.specs.Program.{Program, portsOf, task}
 use Rattle.program.specs.Ports.{valueOf, takes}
-use Rattle.runs.specs.Tick.{leftOf, Act, rest, run, runs, after, Place, moved, doing}
+use Rattle.runs.specs.Tick.{leftOf, Act, rest, run, after, Place, moved, doing, runsIn}
 use Rattle.runs.specs.Schedule.{blockOf}
 use Rattle.runs.specs.declared.turn.Turn.{Turn}
 use Rattle.machine.specs.declared.State.{State}
@@ -47,6 +47,10 @@ module _ (S : List ℤ) (s : State) where
   abbrev pub actOf : ℕ → Act
   actOf j = doing (blockOf S j (s .current)) (s .elapsed) (placeOf j)
 
+  -- supplier j runs in the tick
+  abbrev pub runsNow : ℕ → Bool
+  runsNow j = runsIn (blockOf S j (s .current)) (s .elapsed) (placeOf j)
+
   abbrev pub movedOf : ℕ → ℕ
   movedOf j = moved (blockOf S j (s .current)) (s .elapsed) (placeOf j)
 
@@ -59,8 +63,8 @@ module _ (S : List ℤ) (s : State) where
     pub other-supplier : ℕ
     pub apart : one-supplier < other-supplier
     pub in-range : other-supplier < suppliers
-    pub one-runs : runs (actOf one-supplier) ≡ true
-    pub other-runs : runs (actOf other-supplier) ≡ true
+    pub one-runs : runsNow one-supplier ≡ true
+    pub other-runs : runsNow other-supplier ≡ true
 
 -- the same as the code hands it on: how many run, two standing for more, and the task if one does
 abbrev pub told : Who → Running

@@ -48,28 +48,38 @@ idleFits S i = eqb (rowKind S i) kindIdle && eqb (rowTask S i) 0
 unfoldable pub precedes : List ℤ → ℕ → ℕ → Bool
 precedes S i j = ltb (rowSupplier S i) (rowSupplier S j) || (eqb (rowSupplier S i) (rowSupplier S j) && ltb (rowAddress S i) (rowAddress S j))
 
--- row i is wrong by itself, or comes before the row above it (row 0 - 1 is row 0)
-unfoldable pub rowWrong : Tables → List Op → List ℤ → ℕ → Bool
-rowWrong T code S i =
+-- row i is wrong by itself, or comes before the row above it (row 0 - 1 is row 0), where it is said of an address and a timeout whether a
+-- `future` stands there and the timeout is within its delay
+abbrev pub wrongRow : (ℕ → ℕ → Bool) → Tables → List ℤ → ℕ → Bool
+wrongRow within T S i =
     not
     (ltb (rowSupplier S i) suppliers
     && (dispatchFits T S i || idleFits S i)
-    && inDelay (delayAt code (rowAddress S i)) (rowTimeout S i))
+    && within (rowAddress S i) (rowTimeout S i))
     || precedes S i (i - 1)
+
+unfoldable pub rowWrong : Tables → List Op → List ℤ → ℕ → Bool
+rowWrong T code S i = wrongRow (λ a timeout. inDelay (delayAt code a) timeout) T S i
 
 unfoldable pub rowsBad : Tables → List ℤ → Bool
 rowsBad T S = let code = listingOf T in any (rowWrong T code S) (scheduleCount S)
 
--- one supplier's part: the supplier is 0..7, and no row is of another
+-- one supplier's part: no row is wrong, none is of another, and the supplier is 0..7
+abbrev pub badPart : Bool → List ℤ → ℕ → Bool
+badPart wrong S s = wrong || any (λ i. not (eqb (rowSupplier S i) s)) (scheduleCount S) || leb suppliers s
+
 unfoldable pub partBad : Tables → List ℤ → ℕ → Bool
-partBad T S s = rowsBad T S || any (λ i. not (eqb (rowSupplier S i) s)) (scheduleCount S) || leb suppliers s
+partBad T S s = badPart (rowsBad T S) S s
 
 -- the joined schedule: at most 256 rows of one supplier
 unfoldable pub rowCount : List ℤ → ℕ → ℕ
 rowCount S s = length (those (λ i. eqb (rowSupplier S i) s) (λ i. i) (scheduleCount S) 0)
 
+abbrev pub badJoined : Bool → List ℤ → Bool
+badJoined wrong S = wrong || any (λ s. ltb maxPart (rowCount S s)) suppliers
+
 unfoldable pub joinedBad : Tables → List ℤ → Bool
-joinedBad T S = rowsBad T S || any (λ s. ltb maxPart (rowCount S s)) suppliers
+joinedBad T S = badJoined (rowsBad T S) S
 
 -- The same as claims.
 pub record Dispatches (T : Tables) (S : List ℤ) (i : ℕ) : Type 0 where

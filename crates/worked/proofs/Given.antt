@@ -7,12 +7,11 @@ use native.Mathlib.Omega.{arith}
 use lib.IntN.{pos}
 use Rattle.program.specs.Program.{Program, programOf}
 use Rattle.program.specs.Ports.{valueOf}
-use Rattle.runs.specs.Tick.{runs}
 use Rattle.suppliers.proofs.Accepted.{windows-accepted}
 use Rattle.giotto.specs.Execution.{execution}
 use Rattle.machine.specs.declared.State.{State}
 use Rattle.machine.specs.Instant.{Outcome, ok, stop}
-use Rattle.machine.specs.Schedules.{actOf}
+use Rattle.machine.specs.Schedules.{runsNow}
 use Rattle.machine.specs.Advance.{Lent, stateOf}
 use Rattle.demands.specs.Composed.{joined, configurationAt, Fair, Right}
 use Rattle.demands.specs.Given.{Given, resultsOf, lentBy, Fed}
@@ -82,7 +81,7 @@ abbrev left : Outcome → State
 left (ok u) = u
 left (stop n) = stateOf (monitor-program .first)
 
-one-runs : runs (actOf (joined monitor-system) (left (readyAt monitor-system monitor-lent 4)) 1) ≡ true
+one-runs : runsNow (joined monitor-system) (left (readyAt monitor-system monitor-lent 4)) 1 ≡ true
 unfolding computed
 one-runs = refl
 
@@ -90,7 +89,7 @@ pub monitor-kept : TickInWindow monitor-system mix monitor-lent 4 1
 monitor-kept =
     let w = windows-kept monitor-system monitor-accepted mix monitor-lent 4 (λ k l. fair k) in
     let (u, e) = w .0 in
-    w .1 u e 1 (omega arith) (subst (λ (u : State). runs (actOf (joined monitor-system) u 1) ≡ true) (ap left e) one-runs)
+    w .1 u e 1 (omega arith) (subst (λ (u : State). runsNow (joined monitor-system) u 1 ≡ true) (ap left e) one-runs)
 
 -- its place is the first tick of unit 0
 place : InRound monitor-program 4 (configurationAt monitor-system mix monitor-lent 5) 0 0
