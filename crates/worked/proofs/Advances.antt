@@ -21,16 +21,16 @@ use Rattle.demands.specs.Supplied.{lentTo}
 use Rattle.demands.proofs.Calls.{advance-exact}
 use Rattle.demands.proofs.Machine.{advance-moves, time-moves, instant-counted}
 use Rattle.worked.specs.Computed.{computed}
-use Rattle.worked.specs.Programs.{F}
+use Rattle.worked.specs.Programs.{programF}
 use Rattle.worked.specs.Systems.{F-system, mix, readings, times}
 
 -- from a fresh state, with the longest execution times
 abbrev pub begun : State
-begun = freshAnswer (F 6 2) .state
+begun = freshAnswer (programF 6 2) .state
 
 abbrev pub first : Advance
 first = record {
-  tables = F 6 2;
+  tables = programF 6 2;
   code = code F-system;
   schedule = joined F-system;
   state = begun;
@@ -58,7 +58,7 @@ pub F-passes : Keep advanceRules first × TickPasses first
 F-passes = advance-exact first .accepted .0 accepted
 
 -- the schedule's rows are right, and in the second tick task 1 runs: it is declared
-rows-right : joinedBad (F 6 2) (joined F-system) ≡ false
+rows-right : joinedBad (programF 6 2) (joined F-system) ≡ false
 unfolding computed
 rows-right = refl
 
@@ -66,6 +66,6 @@ one-runs : running (joined F-system) (advanceAnswer first .state) ≡ one 1
 unfolding computed
 one-runs = refl
 
-pub F-declared : 1 < taskCount (F 6 2)
+pub F-declared : 1 < taskCount (programF 6 2)
 F-declared =
-    running-declared (F 6 2) (joined F-system) (advanceAnswer first .state) 1 (joined-bars (F 6 2) (joined F-system) .ok rows-right .rows) one-runs
+    running-declared (programF 6 2) (joined F-system) (advanceAnswer first .state) 1 (joined-bars (programF 6 2) (joined F-system) .ok rows-right .rows) one-runs

@@ -21,12 +21,12 @@ use Rattle.demands.proofs.Calls.{compile-exact, fresh-exact}
 use Rattle.demands.proofs.Supplier.{supplier-exact}
 use Rattle.demands.proofs.Verdict.{refusal-keeps}
 use Rattle.worked.specs.Computed.{computed}
-use Rattle.worked.specs.Programs.{F, numbers, window}
+use Rattle.worked.specs.Programs.{programF, numbers, window}
 use Rattle.worked.specs.Programs as programs
 use Rattle.worked.proofs.Table.{asked, t1-worst-6, t1-worst-7, window-to-9, t1-first}
 
 -- a supplier's verdict: accepted, late at tick 10, outside its window at tick 9, late at tick 5
-pub passes : (m : ℕ) → m < modeCount (F 6 2) → (c : Choice) → WithinWorst (courseOf (asked 6 (window 0 10) (programs.schedule 1 0)) m) c
+pub passes : (m : ℕ) → m < modeCount (programF 6 2) → (c : Choice) → WithinWorst (courseOf (asked 6 (window 0 10) (programs.schedule 1 0)) m) c
     → Good (courseOf (asked 6 (window 0 10) (programs.schedule 1 0)) m) c nothing
 passes = supplier-exact (asked 6 (window 0 10) (programs.schedule 1 0)) .accepted .0 t1-worst-6 .1
 
@@ -41,7 +41,7 @@ late-at-5 = supplier-exact (asked 4 (window 0 10) (programs.schedule 0 1)) .late
 
 -- 13 has no place: supplier 8
 abbrev stranger : Asked
-stranger = record { tables = F 6 2; windows = window 0 10; part = []; supplier = pos 8 }
+stranger = record { tables = programF 6 2; windows = window 0 10; part = []; supplier = pos 8 }
 
 stranger-refused : supplierVerdict stranger ≡ record { number = 13; mode = 0; tick = 0 }
 unfolding computed
@@ -79,7 +79,7 @@ modeless-zero = fresh-exact (sensing []) .refused (λ e. omega (arith, e, modele
 
 -- compiling F into 50 words: 17 instructions need 51
 abbrev cramped : Compiling
-cramped = record { tables = F 6 2; slice = replicate 50 7 }
+cramped = record { tables = programF 6 2; slice = replicate 50 7 }
 
 cramped-refused : compileAnswer cramped .number ≡ 11
 unfolding computed

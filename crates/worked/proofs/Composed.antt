@@ -33,7 +33,7 @@ use Rattle.demands.proofs.Compiled.{compiled-instant}
 use Rattle.demands.proofs.Composed.{composed-run, same-values, related-always}
 use Rattle.demands.proofs.Supplied.{premises-met, worst-case-fair}
 use Rattle.worked.specs.Computed.{computed}
-use Rattle.worked.specs.Programs.{F}
+use Rattle.worked.specs.Programs.{programF}
 use Rattle.worked.specs.Systems.{F-system, monitor-system, mix, readings, gaps, times}
 use Rattle.worked.proofs.Runs.{F-accepted, monitor-accepted}
 use Rattle.worked.proofs.Instances.{F-fair}
@@ -54,7 +54,7 @@ pub F-right : (n : ℕ) → Right F-system mix F-lent n
 F-right n = composed-run F-system F-accepted .1 mix F-lent n (λ k l. F-fair k)
 
 -- with the shortest execution times too, and the ports are the same at every tick
-one-tick : (t : ℕ) → t < taskCount (F 6 2) → InRange (numAt (times (1 ∷ 1 ∷ []) 0) t) (task (programOf (F 6 2)) t .worst)
+one-tick : (t : ℕ) → t < taskCount (programF 6 2) → InRange (numAt (times (1 ∷ 1 ∷ []) 0) t) (task (programOf (programF 6 2)) t .worst)
 unfolding computed
 one-tick zero l = (omega arith, omega arith)
 one-tick (suc zero) l = (omega arith, omega arith)
@@ -64,7 +64,7 @@ F-early : (n : ℕ) → Fair F-system mix F-lent-early n
 F-early n =
     let a = windows-accepted _ (F-accepted .windows) in
     premises-met F-system mix readings (times (1 ∷ 1 ∷ [])) (F-accepted .windows) (λ k. refl) (λ k. refl)
-    (λ k t m. one-tick t (released-declared (F 6 2) (accepted-fields (F 6 2) a) mix readings k t m)) n
+    (λ k t m. one-tick t (released-declared (programF 6 2) (accepted-fields (programF 6 2) a) mix readings k t m)) n
 
 pub F-same-values : (n : ℕ)
     → stateAt F-system F-lent (suc n) .ports

@@ -28,16 +28,16 @@ use Rattle.demands.proofs.Verdict.{accepted-exactly}
 use Rattle.demands.proofs.Supplier.{supplier-exact, domination, independent}
 use Rattle.demands.proofs.Supplied.{worst-case-fair}
 use Rattle.worked.specs.Computed.{computed}
-use Rattle.worked.specs.Programs.{F}
+use Rattle.worked.specs.Programs.{programF}
 use Rattle.worked.specs.Systems.{F-system, F-asked, monitor, monitorWindows, monitor-system, mix, readings}
 
 -- demand 2: both programs meet every rule
-pub F-verdict : programVerdict (F 6 2) ≡ 0
+pub F-verdict : programVerdict (programF 6 2) ≡ 0
 unfolding computed
 F-verdict = refl
 
-pub F-rules : Keep programRules (F 6 2)
-F-rules = accepted-exactly (F 6 2) .0 F-verdict
+pub F-rules : Keep programRules (programF 6 2)
+F-rules = accepted-exactly (programF 6 2) .0 F-verdict
 
 monitor-verdict : programVerdict (monitor 2) ≡ 0
 unfolding computed
@@ -48,9 +48,9 @@ monitor-rules = accepted-exactly (monitor 2) .0 monitor-verdict
 
 -- 001's successor: F's first instant has one
 pub F-succeeds :
-    Successor (F 6 2) (results (programOf (F 6 2)) mix (programOf (F 6 2) .first)) (valueOf (readings 0))
-    (execution (programOf (F 6 2)) mix readings 0) (execution (programOf (F 6 2)) mix readings 1)
-F-succeeds = execution-succeeds (F 6 2) F-rules mix readings 0 refl
+    Successor (programF 6 2) (results (programOf (programF 6 2)) mix (programOf (programF 6 2) .first)) (valueOf (readings 0))
+    (execution (programOf (programF 6 2)) mix readings 0) (execution (programOf (programF 6 2)) mix readings 1)
+F-succeeds = execution-succeeds (programF 6 2) F-rules mix readings 0 refl
 
 -- demand 3, first half: F's code keeps to its window and ends in time for every choice of execution times
 pub F-part : partVerdict F-asked ≡ 0

@@ -22,7 +22,7 @@ use Rattle.text.specs.Listing.{arguments, listingText}
 use Rattle.text.specs.ReadBack.{Printable, readListing}
 use Rattle.text.proofs.Inverted.{read-listing}
 use Rattle.worked.specs.Computed.{computed}
-use Rattle.worked.specs.Programs.{F}
+use Rattle.worked.specs.Programs.{programF}
 
 -- an instruction that is known, and numbers of 32 bits, by a test
 abbrev isKnown : Op → Bool
@@ -61,33 +61,33 @@ every-printable (o ∷ os) e = go (isKnown o) (areWords (arguments o)) refl refl
     go false b p q f ih = clash {b = false} f refl
 
 -- F's listing has 17 instructions, all of them printed whole
-F-few : length (listingOf (F 6 2)) ≡ 17
+F-few : length (listingOf (programF 6 2)) ≡ 17
 unfolding computed
 F-few = refl
 
-F-printed : arePrinted (listingOf (F 6 2)) ≡ true
+F-printed : arePrinted (listingOf (programF 6 2)) ≡ true
 unfolding computed arePrinted
 F-printed = refl
 
 -- so what is printed of it reads back
-pub F-reads-back : readListing (listingText (listingOf (F 6 2))) ≡ some (listingOf (F 6 2))
-F-reads-back = read-listing (listingOf (F 6 2)) (omega (arith, F-few)) (every-printable (listingOf (F 6 2)) F-printed)
+pub F-reads-back : readListing (listingText (listingOf (programF 6 2))) ≡ some (listingOf (programF 6 2))
+F-reads-back = read-listing (listingOf (programF 6 2)) (omega (arith, F-few)) (every-printable (listingOf (programF 6 2)) F-printed)
 
 -- its table of delays: 5 at the `future` of address 9, and exactly where none stands 0
-pub F-delay : wordAt (marked (listingOf (F 6 2)) 0 (replicate maxCode 0)) 9 ≡ delayNumber (delayAt (listingOf (F 6 2)) 9)
-F-delay = table-exact (listingOf (F 6 2)) (omega (arith, F-few)) 9
+pub F-delay : wordAt (marked (listingOf (programF 6 2)) 0 (replicate maxCode 0)) 9 ≡ delayNumber (delayAt (listingOf (programF 6 2)) 9)
+F-delay = table-exact (listingOf (programF 6 2)) (omega (arith, F-few)) 9
 
-F-five : delayAt (listingOf (F 6 2)) 9 ≡ some 5
+F-five : delayAt (listingOf (programF 6 2)) 9 ≡ some 5
 unfolding computed
 F-five = refl
 
-F-verdict : programVerdict (F 6 2) ≡ 0
+F-verdict : programVerdict (programF 6 2) ≡ 0
 unfolding computed
 F-verdict = refl
 
-F-none : delayAt (listingOf (F 6 2)) 10 ≡ none
+F-none : delayAt (listingOf (programF 6 2)) 10 ≡ none
 unfolding computed
 F-none = refl
 
-pub F-no-delay : wordAt (marked (listingOf (F 6 2)) 0 (replicate maxCode 0)) 10 ≡ 0
-F-no-delay = zero-none (F 6 2) F-verdict (omega (arith, F-few)) 10 .1 F-none
+pub F-no-delay : wordAt (marked (listingOf (programF 6 2)) 0 (replicate maxCode 0)) 10 ≡ 0
+F-no-delay = zero-none (programF 6 2) F-verdict (omega (arith, F-few)) 10 .1 F-none

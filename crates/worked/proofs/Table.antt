@@ -12,24 +12,24 @@ use Rattle.code.specs.Op.{call, schedule, jump, future, return}
 use Rattle.code.specs.Compile.{listingOf}
 use Rattle.suppliers.specs.Supplier.{Asked, supplierVerdict}
 use Rattle.worked.specs.Computed.{computed}
-use Rattle.worked.specs.Programs.{F, bare, updated, guarded, intervalRow, switching, window}
+use Rattle.worked.specs.Programs.{programF, bare, updated, guarded, intervalRow, switching, window}
 use Rattle.worked.specs.Programs as programs
 
 -- F is accepted, and has 2 units
-F-accepted : programVerdict (F 6 2) ≡ 0
+F-accepted : programVerdict (programF 6 2) ≡ 0
 unfolding computed
 F-accepted = refl
 
-F-units : units (F 6 2) 0 ≡ 2
+F-units : units (programF 6 2) 0 ≡ 2
 unfolding computed
 F-units = refl
 
 -- F: 17 instructions, and the whole listing
-pub F-length : length (listingOf (F 6 2)) ≡ 17
+pub F-length : length (listingOf (programF 6 2)) ≡ 17
 unfolding computed
 F-length = refl
 
-F-listing : listingOf (F 6 2)
+F-listing : listingOf (programF 6 2)
     ≡ jump 1
     ∷ call 1000
     ∷ call 1001
@@ -99,7 +99,7 @@ task-3-switch-2 = refl
 -- F, one supplier, t2 worst 2, both blocks dispatch t2 then t1 unless it says so, all timeouts 5: the answer for these
 -- worst-case times of t1, window and order
 abbrev pub asked : ℕ → List ℤ → List ℤ → Asked
-asked worst1 windows part = record { tables = F worst1 2; windows = windows; part = part; supplier = pos 0 }
+asked worst1 windows part = record { tables = programF worst1 2; windows = windows; part = part; supplier = pos 0 }
 
 -- t1 worst 6 passes
 pub t1-worst-6 : supplierVerdict (asked 6 (window 0 10) (programs.schedule 1 0)) ≡ record { number = 0; mode = 0; tick = 0 }

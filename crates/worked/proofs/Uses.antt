@@ -26,13 +26,13 @@ use Rattle.demands.specs.Supplied.{lentTo}
 use Rattle.demands.specs.Uses.{otherwise}
 use Rattle.demands.proofs.Uses.{used-only, same-within, sensors-only, tasks-only, refused-uses-none}
 use Rattle.worked.specs.Computed.{computed}
-use Rattle.worked.specs.Programs.{F}
+use Rattle.worked.specs.Programs.{programF}
 use Rattle.worked.specs.Systems.{F-system, mix, readings, times}
 
 -- F from a state at a tick, with the shortest execution times
 abbrev advance : ℕ → State → Advance
 advance n s = record {
-  tables = F 6 2;
+  tables = programF 6 2;
   code = code F-system;
   schedule = joined F-system;
   state = s;
@@ -40,7 +40,7 @@ advance n s = record {
 }
 
 abbrev first : Advance
-first = advance 0 (freshAnswer (F 6 2) .state)
+first = advance 0 (freshAnswer (programF 6 2) .state)
 
 abbrev second : Advance
 second = advance 1 (advanceAnswer first .state)
@@ -145,7 +145,7 @@ F-second-uses rs ts r t = same-within second within rs ts (sym r) (sym t)
 
 -- one that is refused with 21, since a task has too long left, uses nothing
 abbrev far : Advance
-far = advance 0 (withLeft (freshAnswer (F 6 2) .state) (5000 ∷ replicate 31 0))
+far = advance 0 (withLeft (freshAnswer (programF 6 2) .state) (5000 ∷ replicate 31 0))
 
 far-refused : advanceAnswer far .number ≡ 21
 unfolding computed

@@ -20,7 +20,7 @@ use Rattle.suppliers.proofs.Delays.{part-counted, joined-counted}
 use Rattle.rounds.specs.Course.{courseOn}
 use Rattle.rounds.proofs.Courses.{judged-counted}
 use Rattle.worked.specs.Computed.{computed}
-use Rattle.worked.specs.Programs.{F, window, schedule}
+use Rattle.worked.specs.Programs.{programF, window, schedule}
 use Rattle.worked.specs.Systems.{F-asked}
 use Rattle.worked.proofs.Table.{F-length}
 use Rattle.worked.proofs.Instances.{F-verdict, F-part}
@@ -30,12 +30,12 @@ abbrev rows : List ℤ
 rows = schedule 1 0
 
 -- the part passes 13, so it is sorted
-part-fits : partBad (F 6 2) rows 0 ≡ false
+part-fits : partBad (programF 6 2) rows 0 ≡ false
 unfolding computed
 part-fits = refl
 
 in-order : Sorted rows
-in-order = part-bars (F 6 2) rows 0 .ok part-fits .rows .sorted
+in-order = part-bars (programF 6 2) rows 0 .ok part-fits .rows .sorted
 
 -- the first block ends at row 2, and no row of the second stands before
 first-end : found rows 0 0 9 .end ≡ 2
@@ -52,17 +52,17 @@ second-block =
     block-found rows 0 15 (found rows 0 0 9 .end) in-order (omega (arith, first-end)) behind
 
 -- F's part is held against its counted delays as against its listing; so is the schedule of its only part
-pub F-delays : partBadBy (F 6 2) (countedDelays (F 6 2)) rows 0 ≡ partBad (F 6 2) rows 0
-F-delays = part-counted (F 6 2) F-verdict (omega (arith, F-length)) rows 0
+pub F-delays : partBadBy (programF 6 2) (countedDelays (programF 6 2)) rows 0 ≡ partBad (programF 6 2) rows 0
+F-delays = part-counted (programF 6 2) F-verdict (omega (arith, F-length)) rows 0
 
-pub F-joined-delays : joinedBadBy (F 6 2) (countedDelays (F 6 2)) rows ≡ joinedBad (F 6 2) rows
-F-joined-delays = joined-counted (F 6 2) F-verdict (omega (arith, F-length)) rows
+pub F-joined-delays : joinedBadBy (programF 6 2) (countedDelays (programF 6 2)) rows ≡ joinedBad (programF 6 2) rows
+F-joined-delays = joined-counted (programF 6 2) F-verdict (omega (arith, F-length)) rows
 
 -- F's run, as it is counted from the tables with its one sensor
-one-sensor : 1 ≡ length (programOf (F 6 2) .sensors)
+one-sensor : 1 ≡ length (programOf (programF 6 2) .sensors)
 unfolding computed
 one-sensor = refl
 
 pub F-counted :
-    answerFrom (λ m. worstBreak (courseOn (F 6 2) (window 0 10) rows 0 1 m (startIn (F 6 2) 1 m)) nothing) (modeCount (F 6 2)) 0 ≡ judged F-asked
+    answerFrom (λ m. worstBreak (courseOn (programF 6 2) (window 0 10) rows 0 1 m (startIn (programF 6 2) 1 m)) nothing) (modeCount (programF 6 2)) 0 ≡ judged F-asked
 F-counted = judged-counted F-asked F-part 1 one-sensor

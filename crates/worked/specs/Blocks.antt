@@ -6,7 +6,7 @@ use lib.IntN.{ℤ, pos}
 use Rattle.runs.specs.Tick.{dispatch, idle, Row, Act, Place, doing, tick}
 use Rattle.suppliers.specs.Supplier.{supplierVerdict}
 use Rattle.suppliers.specs.declared.Answer.{Answer}
-use Rattle.worked.specs.Programs.{numbers, F}
+use Rattle.worked.specs.Programs.{numbers, programF}
 
 -- a dispatch of a job, and an idle, up to a timeout
 abbrev pub dispatchTo : ℕ → ℕ → Row
@@ -38,7 +38,7 @@ cutOff = numbers
 -- the answer for t1's worst-case time and these two windows
 abbrev pub cutOffAnswer : ℕ → ℕ → ℕ → ℕ → ℕ → Answer
 cutOffAnswer worst1 from1 to1 from2 to2 = supplierVerdict (record {
-  tables = F worst1 2;
+  tables = programF worst1 2;
   windows = numbers (0 ∷ 0 ∷ from1 ∷ to1 ∷ 0 ∷ 0 ∷ from2 ∷ to2 ∷ []);
   part = cutOff;
   supplier = pos 0;

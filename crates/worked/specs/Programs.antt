@@ -22,8 +22,8 @@ intervalRow port low high = pos kindInterval ∷ pos port ∷ low ∷ high ∷ [
 
 -- Program F, with the worst-case times of t1 and t2, both of supplier 0.
 -- Ports: 0 s, 1 a, 2..6 i1..i5, 7..11 o1..o5
-abbrev pub F : ℕ → ℕ → Tables
-F worst1 worst2 =
+abbrev pub programF : ℕ → ℕ → Tables
+programF worst1 worst2 =
     tables
     (ports 1 sensor ++ (ports 1 actuator ++ (ports 5 input ++ ports 5 output)))
     (numbers (0 ∷ worst1 ∷ 0 ∷ worst2 ∷ []))

@@ -21,7 +21,7 @@ use Rattle.machine.specs.Schedules.{Who, nobody, running}
 use Rattle.machine.specs.Advance.{freshAnswer, ready}
 use Rattle.demands.specs.Composed.{System, joined, code, advanced}
 use Rattle.demands.specs.Supplied.{lentTo}
-use Rattle.worked.specs.Programs.{numbers, ports, alwaysRow, intervalRow, F, schedule, window}
+use Rattle.worked.specs.Programs.{numbers, ports, alwaysRow, intervalRow, programF, schedule, window}
 
 -- F, its code by supplier 0
 abbrev pub partsOf : List ℤ → List ℤ → ℕ → List ℤ
@@ -34,11 +34,11 @@ abbrev pub room : List ℕ
 room = replicate (wordsEach * 64) 0
 
 abbrev pub F-system : System
-F-system = record { tables = F 6 2; windows = window 0 10; parts = partsOf (schedule 1 0) []; slice = room }
+F-system = record { tables = programF 6 2; windows = window 0 10; parts = partsOf (schedule 1 0) []; slice = room }
 
 -- what F's supplier is asked about
 abbrev pub F-asked : Asked
-F-asked = record { tables = F 6 2; windows = F-system .windows; part = F-system .parts 0; supplier = pos 0 }
+F-asked = record { tables = programF 6 2; windows = F-system .windows; part = F-system .parts 0; supplier = pos 0 }
 
 -- The monitor. Ports: 0 the measured resistance, 1 the relay, 2 and 3 the tasks' inputs, 4 their output.
 -- Mode 0, period 4: task 0 of supplier 0, twice; a missing reading switches to mode 1.
