@@ -15,7 +15,7 @@ use Rattle.suppliers.specs.Supplier.{Asked, courseOf, answerOf, judged, 
 use Rattle.suppliers.proofs.Modes.{Answered, answered}
 
 -- no place, or 14 or 15
-abbrev pub Placed : Answer → Type 0
+abbrev Placed : Answer → Type 0
 Placed a = (a ≡ record { number = 0; mode = 0; tick = 0 }) ⊎ ((a .number ≡ 14) ⊎ (a .number ≡ 15))
 
 break-placed : (i : ℕ) (b : Break) → (b ≡ none → ⊥) → Placed (answerOf i b)
