@@ -22,7 +22,9 @@ use machine::values;
 use program::members;
 use runs::turn;
 
-// The last call numbers of the first two ranges.
+// Where the range of drivers begins, and where the first two ranges end.
+const DRIVER_CALL: usize = 0;
+
 const LAST_DRIVER_CALL: usize = Program::OUTPUT_CALL - 1;
 
 const LAST_OUTPUT_CALL: usize = Program::SENSOR_CALL - 1;
@@ -115,7 +117,7 @@ pub fn call(
     ensures { λ r. ⌜ ((T : Tables) → T .ports ≡ now (ports .entry) → T .tasks ≡ now (tasks .entry) → T .taskPorts ≡ now («task_ports» .entry) → T .drivers ≡ now (drivers .entry) → T .copies ≡ now (copies .entry) → (times : List ℤ) → r ≡ callAnswer (programOf T) (now (readings .entry)) times s (callOf n)) ⌝ }
 {
     match n {
-        0..=LAST_DRIVER_CALL => driver_call(drivers, copies, n, s),
+        DRIVER_CALL..=LAST_DRIVER_CALL => driver_call(drivers, copies, n, s),
         Program::OUTPUT_CALL..=LAST_OUTPUT_CALL => {
             output_call(ports, tasks, task_ports, n - Program::OUTPUT_CALL, s)
         }
