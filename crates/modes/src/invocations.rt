@@ -30,12 +30,7 @@ fn invocation_clash(
 }
 
 // A row before row i clashes with it.
-fn has_invocation_clash(
-    ports: &[i32],
-    task_ports: &[i32],
-    invocations: &[i32],
-    i: usize,
-) -> bool
+fn has_invocation_clash(ports: &[i32], task_ports: &[i32], invocations: &[i32], i: usize) -> bool
     ensures { λ r. ⌜ ((T : Tables) → T .ports ≡ now (ports .entry) → T .taskPorts ≡ now («task_ports» .entry) → T .invocations ≡ now (invocations .entry) → r ≡ any (invocationClash T i) i) ⌝ }
 {
     let mut j = 0;

@@ -49,13 +49,7 @@ fn some_row_misses(t: &[i32], width: usize, m: Mode, u: usize) -> bool
 }
 
 // u is a multiple of every frequency of mode m.
-fn is_multiple(
-    invocations: &[i32],
-    updates: &[i32],
-    switches: &[i32],
-    m: Mode,
-    u: usize,
-) -> bool
+fn is_multiple(invocations: &[i32], updates: &[i32], switches: &[i32], m: Mode, u: usize) -> bool
     ensures { λ r. ⌜ ((T : Tables) → T .invocations ≡ now (invocations .entry) → T .updates ≡ now (updates .entry) → T .switches ≡ now (switches .entry) → r ≡ isMultiple T (m .0) u) ⌝ }
 {
     let a = some_row_misses(invocations, invocation::WIDTH, m, u);

@@ -74,8 +74,8 @@ returns c =
     → T .updates ≡ s .args .updates .now → T .switches ≡ s .args .switches .now
     → c .before .loop .delays ≡ modesMarked T (length (sensorRows (T .ports) (λ p. p))) (modeCount T) table =
     λ T p d e f g.
-        walked-all _ _ _ _ _ _ _ _ (c .loop-test .left) (c .before .loop .inv T d e f g) .0
-        ∙ (λ i. modesMarked T ((c .before .before .sensors .ensures ∙ ap (λ (t : List ℤ). length (sensorRows t (λ p. p))) (sym p)) i) (rowsIn modeWidth (sym d i)) table) in
+    walked-all _ _ _ _ _ _ _ _ (c .loop-test .left) (c .before .loop .inv T d e f g) .0
+    ∙ (λ i. modesMarked T ((c .before .before .sensors .ensures ∙ ap (λ (t : List ℤ). length (sensorRows t (λ p. p))) (sym p)) i) (rowsIn modeWidth (sym d i)) table) in
     (counted, λ T p d e f g v. counted T p d e f g ∙ sym (listing-marked T _ (ap length (sym (sensors-rows T))) v table))
 
 pub fill-spec : {M : Type 1} → statement M

@@ -80,14 +80,14 @@ loop-again c =
     let L = lent (a .tasks .now) (a .modes .now) (a .invocations .now) (a .updates .now) (a .switches .now) in
     let came = rounded-says (run .ensures L refl refl refl refl refl) .came none in (
       subst₂ (Come (a .part .now) (a .supplier)) (sym (came .0)) (sym (came .1))
-      (come-walk (a .part .now) (a .supplier) (unitCounts L (a .sensors) (l .m)) (l .at) (l .row) (l .inv .0) (units L (l .m))),
+          (come-walk (a .part .now) (a .supplier) (unitCounts L (a .sensors) (l .m)) (l .at) (l .row) (l .inv .0) (units L (l .m))),
       λ T d b e f g.
           let ran = rounded-says (run .ensures T d b e f g) in
           let w = l .inv .1 T d b e f g in (
             start-next T (a .sensors) (l .m) (ran .came none .0) (w .0),
             answering-more _ _ (l .m) (subst (λ (t : List ℤ). l .m < rowsIn modeWidth t) (sym b) (c .before .before .before .loop-test .taken))
-            (ran .number ∙ ap (λ (x : ℕ). breakNumber (breakAt T (a .windows .now) (a .part .now) (a .supplier) (a .sensors) (l .m) x)) (w .0)) (w .1)
-            (c .if1 .left),
+                (ran .number ∙ ap (λ (x : ℕ). breakNumber (breakAt T (a .windows .now) (a .part .now) (a .supplier) (a .sensors) (l .m) x)) (w .0)) (w .1)
+                (c .if1 .left),
           ),
     )
 

@@ -38,9 +38,9 @@ returns c =
     → T .invocations ≡ s .args .invocations .now → T .updates ≡ s .args .updates .now → T .switches ≡ s .args .switches .now
     → (ltb (c .before .first-wrong-row .result) (scheduleCount S) || c .some-long .result) ≡ joinedBadBy T (countedDelays T) S =
     λ T e f g h i j.
-        ap₂ (λ (wrong long : Bool). wrong || long)
-        (test-rows (rowWrongBy T _ S) scheduleWidth {t = S} refl (c .before .first-wrong-row .ensures T f)) (c .some-long .ensures)
-        ∙ ap (λ (t : List ℕ). joinedBadBy T t S) (filled .fill .ensures .0 T e g h i j) in
+    ap₂ (λ (wrong long : Bool). wrong || long)
+    (test-rows (rowWrongBy T _ S) scheduleWidth {t = S} refl (c .before .first-wrong-row .ensures T f)) (c .some-long .ensures)
+    ∙ ap (λ (t : List ℕ). joinedBadBy T t S) (filled .fill .ensures .0 T e g h i j) in
     (counted, λ T e f g h i j v l. counted T e f g h i j ∙ joined-counted T v l S)
 
 pub refused-spec : {M : Type 1} → statement M

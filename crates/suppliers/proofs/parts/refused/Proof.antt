@@ -28,8 +28,8 @@ returns c =
     → T .invocations ≡ s .args .invocations .now → T .updates ≡ s .args .updates .now → T .switches ≡ s .args .switches .now
     → c .part-bad .result ≡ partBadBy T (countedDelays T) (s .args .rows .now) (s .args .supplier) =
     λ T e f g h i j.
-        c .part-bad .ensures T f
-        ∙ ap (λ (t : List ℕ). partBadBy T t (s .args .rows .now) (s .args .supplier)) (c .before .before .before .fill .ensures .0 T e g h i j) in
+    c .part-bad .ensures T f
+    ∙ ap (λ (t : List ℕ). partBadBy T t (s .args .rows .now) (s .args .supplier)) (c .before .before .before .fill .ensures .0 T e g h i j) in
     (counted, λ T e f g h i j v l. counted T e f g h i j ∙ part-counted T v l (s .args .rows .now) (s .args .supplier))
 
 pub refused-spec : {M : Type 1} → statement M

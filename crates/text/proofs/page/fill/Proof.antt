@@ -77,7 +77,7 @@ loop-again c =
     omega (arith, c .before .before .before .before .before .if1 .left, written-same _ _ _ _ _ _ w) in (
       written-more _ _ _ _ _ _ w _ _ _ there (omega (arith, laid .end, said .len, fits, written-same _ _ _ _ _ _ w, w .within)) said laid,
       paged-more (instructions code) (length out) from (s .loop .next) (s .loop .len) (s .loop .inv .1) (c .before .before .lay .result) there fits
-      (omega (arith, laid .end, said .len)),
+          (omega (arith, laid .end, said .len)),
     )
 
 same-length-2 : tie.Need-same-length-2 Inv-loop μ-loop
