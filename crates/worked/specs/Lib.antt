@@ -3,3 +3,4 @@ pub mod Computed
 pub mod Programs
 pub mod Systems
 pub mod Blocks
+pub mod Broken

@@ -1,0 +1,160 @@
+-- Document 01's numbers, where a name stands for them elsewhere: the most rows of each table, F's tables and code as plain numbers, a program for
+-- each refusal of a program and of windows, and the fields at their limits. Assumes nothing.
+use Prim.Native.Nat.{ℕ}
+use mathlib.Core.Path.{_≡_, refl}
+use mathlib.Core.List.{List, [], _∷_}
+use lib.IntN.{ℤ}
+use Rattle.cells.specs.Limits.{maxPorts, maxTasks, maxTaskPorts, maxDrivers, maxCopies, maxModes, maxModePorts, maxInvocations, maxUpdates, maxSwitches, maxWindows, maxPart, maxSchedule, maxUnits, maxCode, maxDelay, maxElapsed, maxRemaining, maxLeft}
+use Rattle.rules.specs.Verdict.{programVerdict}
+use Rattle.code.specs.Op.{emit}
+use Rattle.code.specs.Compile.{listingOf}
+use Rattle.suppliers.specs.Windows.{windowsVerdict}
+use Rattle.worked.specs.Computed.{computed}
+use Rattle.worked.specs.Programs.{numbers, programF}
+use Rattle.worked.specs.Broken.{extended, bounded, twoWindows}
+
+-- most rows, in the order of 01's table: ports to switches, windows, schedule rows a supplier and in all
+most-rows :
+    maxPorts ∷ maxTasks ∷ maxTaskPorts ∷ maxDrivers ∷ maxCopies ∷ maxModes ∷ maxModePorts ∷ maxInvocations ∷ maxUpdates ∷ maxSwitches
+    ∷ maxWindows ∷ maxPart ∷ maxSchedule ∷ []
+    ≡ 64 ∷ 32 ∷ 128 ∷ 64 ∷ 256 ∷ 8 ∷ 256 ∷ 64 ∷ 64 ∷ 64 ∷ 256 ∷ 256 ∷ 2048 ∷ []
+most-rows = refl
+
+-- 9: 64 units; 11 and code lent to run: 4,096 instructions; 19: delays to 4,096; 21: elapsed, remaining, a task's remaining time
+most-else : maxUnits ∷ maxCode ∷ maxDelay ∷ maxElapsed ∷ maxRemaining ∷ maxLeft ∷ [] ≡ 64 ∷ 4096 ∷ 4096 ∷ 4096 ∷ 4096 ∷ 4096 ∷ []
+most-else = refl
+
+-- F's ports: 0 sensor, 1 actuator, 2 task input, 3 task output, each with its first value 0; its drivers: guard kind 0 and three zeros
+F-ports : programF 6 2 .ports
+    ≡ numbers (0 ∷ 0 ∷ 1 ∷ 0 ∷ 2 ∷ 0 ∷ 2 ∷ 0 ∷ 2 ∷ 0 ∷ 2 ∷ 0 ∷ 2 ∷ 0 ∷ 3 ∷ 0 ∷ 3 ∷ 0 ∷ 3 ∷ 0 ∷ 3 ∷ 0 ∷ 3 ∷ 0 ∷ [])
+F-ports = refl
+
+F-drivers : programF 6 2 .drivers ≡ numbers (0 ∷ 0 ∷ 0 ∷ 0 ∷ 0 ∷ 0 ∷ 0 ∷ 0 ∷ 0 ∷ 0 ∷ 0 ∷ 0 ∷ [])
+F-drivers = refl
+
+-- its code in words: 0 call, 1 schedule, 3 jump, 4 future, 5 return, unused words 0
+F-words : emit (listingOf (programF 6 2))
+    ≡ 3 ∷ 1 ∷ 0
+    ∷ 0 ∷ 1000 ∷ 0
+    ∷ 0 ∷ 1001 ∷ 0
+    ∷ 0 ∷ 2 ∷ 0
+    ∷ 0 ∷ 2000 ∷ 0
+    ∷ 0 ∷ 0 ∷ 0
+    ∷ 0 ∷ 1 ∷ 0
+    ∷ 1 ∷ 0 ∷ 0
+    ∷ 1 ∷ 1 ∷ 0
+    ∷ 4 ∷ 5 ∷ 11
+    ∷ 5 ∷ 0 ∷ 0
+    ∷ 0 ∷ 1001 ∷ 0
+    ∷ 0 ∷ 2000 ∷ 0
+    ∷ 0 ∷ 1 ∷ 0
+    ∷ 1 ∷ 1 ∷ 0
+    ∷ 4 ∷ 5 ∷ 1
+    ∷ 5 ∷ 0 ∷ 0
+    ∷ []
+unfolding computed
+F-words = refl
+
+-- nothing added: accepted
+untouched : programVerdict (extended [] [] [] [] [] 0) ≡ 0
+unfolding computed
+untouched = refl
+
+-- 2: a start mode that is none
+no-such-mode : programVerdict (extended [] [] [] [] [] 1) ≡ 2
+unfolding computed
+no-such-mode = refl
+
+-- 3: a task port row repeats; names the actuator; an input of the first task serves the second too
+task-port-repeats : programVerdict (extended (0 ∷ 2 ∷ []) [] [] [] [] 0) ≡ 3
+unfolding computed
+task-port-repeats = refl
+
+task-port-actuator : programVerdict (extended (0 ∷ 1 ∷ []) [] [] [] [] 0) ≡ 3
+unfolding computed
+task-port-actuator = refl
+
+input-of-two : programVerdict (extended (1 ∷ 2 ∷ []) [] [] [] [] 0) ≡ 3
+unfolding computed
+input-of-two = refl
+
+-- 4: the update's driver has two copies to the actuator
+two-copies : programVerdict (extended [] (2 ∷ 9 ∷ 1 ∷ []) [] [] [] 0) ≡ 4
+unfolding computed
+two-copies = refl
+
+-- 5: a mode port row repeats; names an input
+mode-port-repeats : programVerdict (extended [] [] (0 ∷ 7 ∷ []) [] [] 0) ≡ 5
+unfolding computed
+mode-port-repeats = refl
+
+mode-port-input : programVerdict (extended [] [] (0 ∷ 2 ∷ []) [] [] 0) ≡ 5
+unfolding computed
+mode-port-input = refl
+
+-- 6: a task twice in a mode; a driver that copies to another place too
+task-twice : programVerdict (extended [] [] [] (0 ∷ 1 ∷ 0 ∷ 0 ∷ []) [] 0) ≡ 6
+unfolding computed
+task-twice = refl
+
+too-many-inputs : programVerdict (extended [] (0 ∷ 7 ∷ 4 ∷ []) [] [] [] 0) ≡ 6
+unfolding computed
+too-many-inputs = refl
+
+-- 7: two updates share the actuator; one copies to an input
+actuator-of-two : programVerdict (extended [] [] [] [] (0 ∷ 1 ∷ 2 ∷ []) 0) ≡ 7
+unfolding computed
+actuator-of-two = refl
+
+update-of-input : programVerdict (extended [] (2 ∷ 9 ∷ 2 ∷ []) [] [] [] 0) ≡ 7
+unfolding computed
+update-of-input = refl
+
+-- fields at their limits pass, and one beyond is 2: supplier 7, worst-case time 4,096, period 4,096, frequency 64
+at-limits : programVerdict (bounded 7 4096 4096 64) ≡ 0
+unfolding computed
+at-limits = refl
+
+supplier-8 : programVerdict (bounded 8 4096 4096 64) ≡ 2
+unfolding computed
+supplier-8 = refl
+
+worst-4097 : programVerdict (bounded 7 4097 4096 64) ≡ 2
+unfolding computed
+worst-4097 = refl
+
+worst-0 : programVerdict (bounded 7 0 4096 64) ≡ 2
+unfolding computed
+worst-0 = refl
+
+period-4097 : programVerdict (bounded 7 4096 4097 1) ≡ 2
+unfolding computed
+period-4097 = refl
+
+frequency-65 : programVerdict (bounded 7 4096 4096 65) ≡ 2
+unfolding computed
+frequency-65 = refl
+
+frequency-0 : programVerdict (bounded 7 4096 4096 0) ≡ 2
+unfolding computed
+frequency-0 = refl
+
+-- 12: windows of two suppliers may meet, and may not share a tick, be empty or leave the round
+windows : List ℤ → ℕ
+windows W = windowsVerdict (record { tables = programF 6 2; windows = W })
+
+windows-meet : windows (twoWindows 0 5 5 10) ≡ 0
+unfolding computed windows
+windows-meet = refl
+
+windows-share : windows (twoWindows 0 6 5 10) ≡ 12
+unfolding computed windows
+windows-share = refl
+
+window-empty : windows (twoWindows 5 5 5 10) ≡ 12
+unfolding computed windows
+window-empty = refl
+
+window-too-long : windows (twoWindows 0 5 5 11) ≡ 12
+unfolding computed windows
+window-too-long = refl
