@@ -16,7 +16,8 @@ use Rattle.program.specs.Ports.{valueOf, takes}
 use Rattle.program.proofs.Decoded.{task-row}
 use Rattle.runs.specs.Tick.{leftOf}
 use Rattle.machine.specs.declared.State.{State}
-use Rattle.machine.specs.Schedules.{outputsAfter, outputsBy}
+use Rattle.machine.specs.Schedules.{outputsAfter}
+use Rattle.machine.specs.Joined.{outputsBy}
 
 -- in its last tick a task completes, and its results are put into its local outputs
 pub outputs-done : (P : Program) (results : List ℤ) (s : State) (t : ℕ) → leftOf (s .left) t ≡ 1

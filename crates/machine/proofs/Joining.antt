@@ -5,7 +5,8 @@ use mathlib.Core.Path.{_≡_, refl, ap₂, _∙_}
 use Rattle.runs.specs.declared.turn.Turn.{Turn}
 use Rattle.runs.specs.Tick.{Act, rest, run, turnOf}
 use Rattle.machine.specs.declared.schedules.Running.{Running}
-use Rattle.machine.specs.Schedules.{Who, nobody, one, several, join, told, joinTold}
+use Rattle.machine.specs.Schedules.{Who, nobody, one, several, join, told}
+use Rattle.machine.specs.Joined.{joinTold}
 
 -- case by case
 told-joined : (w : Who) (position : ℕ) (a : Act) → joinTold (told w) (turnOf position a) ≡ told (join w a)

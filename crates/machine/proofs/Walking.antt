@@ -18,7 +18,8 @@ use Rattle.runs.proofs.Blocks.{behind-none, behind-supplier, found-within, foun
 use Rattle.machine.specs.declared.State.{State}
 use Rattle.machine.specs.declared.schedules.Running.{Running}
 use Rattle.machine.specs.declared.schedules.Shares.{Shares}
-use Rattle.machine.specs.Schedules.{told, joinTold, whoRuns, actOf, movedOf, sharesOf}
+use Rattle.machine.specs.Schedules.{told, whoRuns, actOf, movedOf, sharesOf}
+use Rattle.machine.specs.Joined.{joinTold}
 use Rattle.machine.proofs.Joining.{joined-told}
 
 module _ (S : List ℤ) (s : State) where

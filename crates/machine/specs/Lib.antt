@@ -4,6 +4,7 @@ pub mod Change
 pub mod Instruction
 pub mod Instant
 pub mod Schedules
+pub mod Joined
 pub mod Advance
 pub mod Fresh
 pub mod Comes

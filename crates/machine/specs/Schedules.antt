@@ -9,12 +9,10 @@ use lib.IntN.{ℤ}
 use lib.ListN.{getD}
 use Rattle.theory.specs.Lists.{each, puts}
 use Rattle.cells.specs.Limits.{suppliers}
-use Rattle.program.specs.Tables.{Tables, output}
-use Rattle.program.specs.Program.{Program, portsOf, task}
+use Rattle.program.specs.Program.{Program, task}
 use Rattle.program.specs.Ports.{valueOf, takes}
 use Rattle.runs.specs.Tick.{leftOf, Act, rest, run, after, Place, moved, doing, runsIn}
 use Rattle.runs.specs.Schedule.{blockOf}
-use Rattle.runs.specs.declared.turn.Turn.{Turn}
 use Rattle.machine.specs.declared.State.{State}
 use Rattle.machine.specs.declared.schedules.Running.{Running}
 use Rattle.machine.specs.declared.schedules.Shares.{Shares}
@@ -72,13 +70,6 @@ told nobody = record { count = 0; job = record { 0 = 0 } }
 told (one t) = record { count = 1; job = record { 0 = t } }
 told several = record { count = 2; job = record { 0 = 0 } }
 
--- one supplier's turn more, as the code joins it
-unfoldable pub joinTold : Running → Turn → Running
-joinTold before t = elim (t .runs) [
-  | true ↦ elim (eqb (before .count) 0) [ true ↦ record { count = 1; job = t .job } | false ↦ told several ]
-  | false ↦ before
-]
-
 abbrev pub sharesOf : List ℤ → State → Shares
 sharesOf S s = record { running = told (running S s); positions = each (movedOf S s) suppliers 0 }
 
@@ -86,13 +77,6 @@ sharesOf S s = record { running = told (running S s); positions = each (movedOf 
 abbrev pub outputsAfter : Program → List ℤ → State → ℕ → List ℤ
 outputsAfter P results s t = elim (eqb (leftOf (s .left) t) 1) [
   | true ↦ puts (takes (valueOf results) (task P t .outputs)) (s .outputs)
-  | false ↦ s .outputs
-]
-
--- the same by the rows of the task ports, whether the task is declared or not
-abbrev pub outputsBy : Tables → List ℤ → State → ℕ → List ℤ
-outputsBy T results s t = elim (eqb (leftOf (s .left) t) 1) [
-  | true ↦ puts (takes (valueOf results) (portsOf T output t)) (s .outputs)
   | false ↦ s .outputs
 ]
 

@@ -1,7 +1,7 @@
 -- `machine::schedules::join` meets its contract: a turn that rests changes nothing, one that runs is the first or one of several. Assumes nothing.
 use mathlib.Core.Path.{refl}
 use borrow.Author.Tests.{not-true, not-false, eq-eqb, ne-eqb}
-use Rattle.machine.specs.Schedules.{joinTold}
+use Rattle.machine.specs.Joined.{joinTold}
 use Rattle.machine.proofs.schedules.join.Statement.{statement}
 use Rattle.machine.proofs.schedules.join.Tie as tie
 

@@ -2,7 +2,7 @@
 use mathlib.Core.Path.{sym, _∙_}
 use borrow.Author.Needs.{needs}
 use borrow.Author.Tests.{eq-eqb, ne-eqb}
-use Rattle.machine.specs.Schedules.{outputsBy}
+use Rattle.machine.specs.Joined.{outputsBy}
 use Rattle.machine.proofs.schedules.outputs_after.Statement.{statement}
 use Rattle.machine.proofs.schedules.outputs_after.Tie as tie
 
