@@ -3,7 +3,6 @@
 use Prim.Native.Nat.{_<_, _+_, _/_, _%_, _^_}
 use mathlib.Core.Path.{_≡_, refl}
 use mathlib.Core.Bool.{false}
-use mathlib.Core.List.{[], _∷_}
 use lib.ListN.{length}
 use Rattle.theory.specs.Verdict.{Keep}
 use Rattle.cells.specs.Limits.{wordsEach}
@@ -11,61 +10,47 @@ use Rattle.program.specs.Tables.{taskCount}
 use Rattle.suppliers.specs.Schedule.{joinedBad}
 use Rattle.suppliers.proofs.Schedule.{joined-bars}
 use Rattle.machine.specs.declared.State.{State}
-use Rattle.machine.specs.Advance.{Advance, advanceRules, freshAnswer, advanceAnswer}
+use Rattle.machine.specs.Advance.{advanceRules, advanceAnswer}
 use Rattle.machine.specs.Schedules.{one, running}
 use Rattle.machine.specs.Comes.{Returns, TickPasses}
 use Rattle.machine.specs.Moves.{Advances}
 use Rattle.machine.proofs.Declared.{running-declared}
 use Rattle.demands.specs.Composed.{joined, code}
-use Rattle.demands.specs.Supplied.{lentTo}
 use Rattle.demands.proofs.Calls.{advance-exact}
 use Rattle.demands.proofs.Machine.{advance-moves, time-moves, instant-counted}
 use Rattle.worked.specs.Computed.{computed}
 use Rattle.worked.specs.Programs.{programF}
-use Rattle.worked.specs.Systems.{F-system, mix, readings, times}
+use Rattle.worked.specs.Systems.{F-system, F-fresh, F-first}
 
--- from a fresh state, with the longest execution times
-abbrev pub begun : State
-begun = freshAnswer (programF 6 2) .state
-
-abbrev pub first : Advance
-first = record {
-  tables = programF 6 2;
-  code = code F-system;
-  schedule = joined F-system;
-  state = begun;
-  lent = lentTo F-system mix readings (times (6 ∷ 2 ∷ [])) 0 begun;
-}
-
-accepted : advanceAnswer first .number ≡ 0
+accepted : advanceAnswer F-first .number ≡ 0
 unfolding computed
 accepted = refl
 
-fresh-ends : begun .remaining ≡ 0
+fresh-ends : F-fresh .remaining ≡ 0
 unfolding computed
 fresh-ends = refl
 
-pub F-advances : Advances first (advanceAnswer first .state)
-F-advances = advance-moves first accepted
+pub F-advances : Advances F-first (advanceAnswer F-first .state)
+F-advances = advance-moves F-first accepted
 
-pub F-time : advanceAnswer first .state .time ≡ (begun .time + 1) % 2 ^ 32
-F-time = time-moves first accepted
+pub F-time : advanceAnswer F-first .state .time ≡ (F-fresh .time + 1) % 2 ^ 32
+F-time = time-moves F-first accepted
 
-pub F-counted : (u : State) × (w : Returns first u) × (w .reaches .before < length (code F-system) / wordsEach)
-F-counted = instant-counted first accepted fresh-ends
+pub F-counted : (u : State) × (w : Returns F-first u) × (w .reaches .before < length (code F-system) / wordsEach)
+F-counted = instant-counted F-first accepted fresh-ends
 
-pub F-passes : Keep advanceRules first × TickPasses first
-F-passes = advance-exact first .accepted .0 accepted
+pub F-passes : Keep advanceRules F-first × TickPasses F-first
+F-passes = advance-exact F-first .accepted .0 accepted
 
 -- the schedule's rows are right, and in the second tick task 1 runs: it is declared
 rows-right : joinedBad (programF 6 2) (joined F-system) ≡ false
 unfolding computed
 rows-right = refl
 
-one-runs : running (joined F-system) (advanceAnswer first .state) ≡ one 1
+one-runs : running (joined F-system) (advanceAnswer F-first .state) ≡ one 1
 unfolding computed
 one-runs = refl
 
 pub F-declared : 1 < taskCount (programF 6 2)
 F-declared =
-    running-declared (programF 6 2) (joined F-system) (advanceAnswer first .state) 1 (joined-bars (programF 6 2) (joined F-system) .ok rows-right .rows) one-runs
+    running-declared (programF 6 2) (joined F-system) (advanceAnswer F-first .state) 1 (joined-bars (programF 6 2) (joined F-system) .ok rows-right .rows) one-runs

@@ -21,9 +21,9 @@ use Rattle.demands.proofs.Calls.{compile-exact, fresh-exact}
 use Rattle.demands.proofs.Supplier.{supplier-exact}
 use Rattle.demands.proofs.Verdict.{refusal-keeps}
 use Rattle.worked.specs.Computed.{computed}
-use Rattle.worked.specs.Programs.{programF, numbers, window}
+use Rattle.worked.specs.Programs.{programF, numbers, window, asked}
 use Rattle.worked.specs.Programs as programs
-use Rattle.worked.proofs.Table.{asked, t1-worst-6, t1-worst-7, window-to-9, t1-first}
+use Rattle.worked.proofs.Table.{t1-worst-6, t1-worst-7, window-to-9, t1-first}
 
 -- a supplier's verdict: accepted, late at tick 10, outside its window at tick 9, late at tick 5
 pub passes : (m : ℕ) → m < modeCount (programF 6 2) → (c : Choice) → WithinWorst (courseOf (asked 6 (window 0 10) (programs.schedule 1 0)) m) c

@@ -17,24 +17,23 @@ use Rattle.demands.proofs.Calls.{advance-exact}
 use Rattle.demands.proofs.Machine.{faulty-exact, time-exact, overrun-exact, count-exact, collision-exact}
 use Rattle.worked.specs.Computed.{computed}
 use Rattle.worked.specs.Programs.{numbers}
-use Rattle.worked.specs.Systems.{F-system, monitor, monitor-system, mix, readings, times}
-use Rattle.worked.proofs.Advances.{begun, first}
+use Rattle.worked.specs.Systems.{F-system, monitor, monitor-system, mix, readings, times, F-fresh, F-first}
 
 -- F's first advance with other code, another state, other times
 abbrev running : List ℕ → Advance
-running words = record { tables = first .tables; code = words; schedule = first .schedule; state = begun; lent = first .lent }
+running words = record { tables = F-first .tables; code = words; schedule = F-first .schedule; state = F-fresh; lent = F-first .lent }
 
 abbrev from : State → Advance
-from s = record { tables = first .tables; code = first .code; schedule = first .schedule; state = s; lent = first .lent }
+from s = record { tables = F-first .tables; code = F-first .code; schedule = F-first .schedule; state = s; lent = F-first .lent }
 
 -- 16: task 0 is released with a time above its worst case
 abbrev slow : Advance
 slow = record {
-  tables = first .tables;
-  code = first .code;
-  schedule = first .schedule;
-  state = begun;
-  lent = lentTo F-system mix readings (times (7 ∷ 2 ∷ [])) 0 begun;
+  tables = F-first .tables;
+  code = F-first .code;
+  schedule = F-first .schedule;
+  state = F-fresh;
+  lent = lentTo F-system mix readings (times (7 ∷ 2 ∷ [])) 0 F-fresh;
 }
 
 slow-refused : advanceAnswer slow .number ≡ 16
@@ -46,7 +45,7 @@ F-time-wrong = time-exact slow .0 slow-refused
 
 -- 17: with a tick of task 0 left its output copy, the instant's second instruction, is refused
 abbrev late : Advance
-late = from (withLeft begun (1 ∷ replicate 31 0))
+late = from (withLeft F-fresh (1 ∷ replicate 31 0))
 
 late-refused : advanceAnswer late .number ≡ 17
 unfolding computed
@@ -62,8 +61,8 @@ both = record {
   code = code monitor-system;
   schedule = numbers (0 ∷ 7 ∷ 0 ∷ 0 ∷ 2 ∷ 1 ∷ 7 ∷ 0 ∷ 1 ∷ 2 ∷ []);
   state = record {
-    ports = begun .ports;
-    outputs = begun .outputs;
+    ports = F-fresh .ports;
+    outputs = F-fresh .outputs;
     time = 0;
     pending = 9;
     current = 7;
@@ -72,7 +71,7 @@ both = record {
     left = 1 ∷ 1 ∷ replicate 30 0;
     positions = replicate 8 0;
   };
-  lent = first .lent;
+  lent = F-first .lent;
 }
 
 both-refused : advanceAnswer both .number ≡ 18
@@ -117,10 +116,10 @@ F-undeclared = faulty-exact undeclared .0 undeclared-refused
 -- 16 before 17: task 0 has time left, and is released with a bad time
 abbrev slow-late : Advance
 slow-late = record {
-  tables = first .tables;
+  tables = F-first .tables;
   code = 1 ∷ 0 ∷ 0 ∷ [];
-  schedule = first .schedule;
-  state = withLeft begun (1 ∷ replicate 31 0);
+  schedule = F-first .schedule;
+  state = withLeft F-fresh (1 ∷ replicate 31 0);
   lent = slow .lent;
 }
 
@@ -156,8 +155,8 @@ F-again = count-exact again .0 again-refused
 -- 21, before anything runs: a pending address that is not inside the code; the state comes back as it was
 abbrev lost : Advance
 lost = from (record {
-  ports = begun .ports;
-  outputs = begun .outputs;
+  ports = F-fresh .ports;
+  outputs = F-fresh .outputs;
   time = 0;
   pending = 17;
   current = 0;

@@ -1,18 +1,17 @@
 -- Document 01's worked table: every row marked (P), as a theorem about the definitions. Assumes nothing.
-use Prim.Native.Nat.{ℕ}
 use mathlib.Core.Path.{_≡_, refl}
 use mathlib.Core.Bool.{false}
-use mathlib.Core.List.{List, [], _∷_}
-use lib.IntN.{ℤ, pos, negsuc}
+use mathlib.Core.List.{[], _∷_}
+use lib.IntN.{pos, negsuc}
 use lib.ListN.{length}
 use Rattle.cells.specs.Reading.{noReading, inside}
 use Rattle.program.specs.Units.{units}
 use Rattle.rules.specs.Verdict.{programVerdict}
 use Rattle.code.specs.Op.{call, schedule, jump, future, return}
 use Rattle.code.specs.Compile.{listingOf}
-use Rattle.suppliers.specs.Supplier.{Asked, supplierVerdict}
+use Rattle.suppliers.specs.Supplier.{supplierVerdict}
 use Rattle.worked.specs.Computed.{computed}
-use Rattle.worked.specs.Programs.{programF, bare, updated, guarded, intervalRow, switching, window}
+use Rattle.worked.specs.Programs.{programF, bare, updated, guarded, intervalRow, switching, window, asked}
 use Rattle.worked.specs.Programs as programs
 
 -- F is accepted, and has 2 units
@@ -96,11 +95,7 @@ task-3-switch-2 : programVerdict (switching 3 2) ≡ 10
 unfolding computed
 task-3-switch-2 = refl
 
--- F, one supplier, t2 worst 2, both blocks dispatch t2 then t1 unless it says so, all timeouts 5: the answer for these
--- worst-case times of t1, window and order
-abbrev pub asked : ℕ → List ℤ → List ℤ → Asked
-asked worst1 windows part = record { tables = programF worst1 2; windows = windows; part = part; supplier = pos 0 }
-
+-- F, one supplier, t2 worst 2, both blocks dispatch t2 then t1 unless it says so, all timeouts 5
 -- t1 worst 6 passes
 pub t1-worst-6 : supplierVerdict (asked 6 (window 0 10) (programs.schedule 1 0)) ≡ record { number = 0; mode = 0; tick = 0 }
 unfolding computed

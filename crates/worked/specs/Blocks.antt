@@ -2,11 +2,11 @@
 -- Assumes nothing.
 use Prim.Native.Nat.{ℕ, zero, suc}
 use mathlib.Core.List.{List, [], _∷_}
-use lib.IntN.{ℤ, pos}
+use lib.IntN.{ℤ}
 use Rattle.runs.specs.Tick.{dispatch, idle, Row, Act, Place, doing, tick}
 use Rattle.suppliers.specs.Supplier.{supplierVerdict}
 use Rattle.suppliers.specs.declared.Answer.{Answer}
-use Rattle.worked.specs.Programs.{numbers, programF}
+use Rattle.worked.specs.Programs.{numbers, asked}
 
 -- a dispatch of a job, and an idle, up to a timeout
 abbrev pub dispatchTo : ℕ → ℕ → Row
@@ -37,9 +37,5 @@ cutOff = numbers
 
 -- the answer for t1's worst-case time and these two windows
 abbrev pub cutOffAnswer : ℕ → ℕ → ℕ → ℕ → ℕ → Answer
-cutOffAnswer worst1 from1 to1 from2 to2 = supplierVerdict (record {
-  tables = programF worst1 2;
-  windows = numbers (0 ∷ 0 ∷ from1 ∷ to1 ∷ 0 ∷ 0 ∷ from2 ∷ to2 ∷ []);
-  part = cutOff;
-  supplier = pos 0;
-})
+cutOffAnswer worst1 from1 to1 from2 to2 =
+    supplierVerdict (asked worst1 (numbers (0 ∷ 0 ∷ from1 ∷ to1 ∷ 0 ∷ 0 ∷ from2 ∷ to2 ∷ [])) cutOff)

@@ -3,6 +3,7 @@ use Prim.Native.Nat.{ℕ, zero, suc}
 use mathlib.Core.List.{List, [], _∷_, _++_, map}
 use lib.IntN.{ℤ, pos}
 use Rattle.program.specs.Tables.{Tables, tables, sensor, actuator, input, output, kindAlways, kindInterval}
+use Rattle.suppliers.specs.Supplier.{Asked}
 
 -- a table of numbers that are not negative
 abbrev pub numbers : List ℕ → List ℤ
@@ -73,3 +74,7 @@ schedule one other =
 -- one window of supplier 0 in mode 0
 abbrev pub window : ℕ → ℕ → List ℤ
 window from to = numbers (0 ∷ 0 ∷ from ∷ to ∷ [])
+
+-- what is asked about F's supplier, with this worst-case time of t1, and 2 of t2
+abbrev pub asked : ℕ → List ℤ → List ℤ → Asked
+asked worst1 windows part = record { tables = programF worst1 2; windows = windows; part = part; supplier = pos 0 }

@@ -18,10 +18,10 @@ use Rattle.giotto.specs.Execution.{initial, pass}
 use Rattle.machine.specs.declared.State.{State}
 use Rattle.machine.specs.Instant.{Outcome, ok, stop}
 use Rattle.machine.specs.Schedules.{Who, nobody, running}
-use Rattle.machine.specs.Advance.{freshAnswer, ready}
+use Rattle.machine.specs.Advance.{Advance, freshAnswer, ready}
 use Rattle.demands.specs.Composed.{System, joined, code, advanced}
 use Rattle.demands.specs.Supplied.{lentTo}
-use Rattle.worked.specs.Programs.{numbers, ports, alwaysRow, intervalRow, programF, schedule, window}
+use Rattle.worked.specs.Programs.{numbers, ports, alwaysRow, intervalRow, programF, schedule, window, asked}
 
 -- F, its code by supplier 0
 abbrev pub partsOf : List ℤ → List ℤ → ℕ → List ℤ
@@ -38,7 +38,7 @@ F-system = record { tables = programF 6 2; windows = window 0 10; parts = partsO
 
 -- what F's supplier is asked about
 abbrev pub F-asked : Asked
-F-asked = record { tables = programF 6 2; windows = F-system .windows; part = F-system .parts 0; supplier = pos 0 }
+F-asked = asked 6 (F-system .windows) (F-system .parts 0)
 
 -- The monitor. Ports: 0 the measured resistance, 1 the relay, 2 and 3 the tasks' inputs, 4 their output.
 -- Mode 0, period 4: task 0 of supplier 0, twice; a missing reading switches to mode 1.
@@ -163,3 +163,16 @@ whoFrom Y F rs ts (suc k) n s =
 -- from a fresh state
 abbrev pub whoEach : System → Function → (ℕ → List ℤ) → (ℕ → List ℤ) → ℕ → List Who
 whoEach Y F rs ts k = whoFrom Y F rs ts k 0 (freshAnswer (Y .tables) .state)
+
+-- F's first advance: from a fresh state, with the longest execution times
+abbrev pub F-fresh : State
+F-fresh = freshAnswer (programF 6 2) .state
+
+abbrev pub F-first : Advance
+F-first = record {
+  tables = programF 6 2;
+  code = code F-system;
+  schedule = joined F-system;
+  state = F-fresh;
+  lent = lentTo F-system mix readings (times (6 ∷ 2 ∷ [])) 0 F-fresh;
+}
