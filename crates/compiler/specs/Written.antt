@@ -4,7 +4,8 @@ use Prim.Native.Nat.{ℕ, _+_, _*_}
 use mathlib.Core.List.{List, [], _∷_}
 use lib.Seq.{sets}
 use Rattle.cells.specs.Limits.{wordsEach}
-use Rattle.code.specs.Op.{Op, call, schedule, branch, jump, future, return, faulty, callNumber, scheduleNumber, ifNumber, jumpNumber, futureNumber, returnNumber, noNumber}
+use Rattle.code.specs.Op.{Op, call, schedule, branch, jump, future, return, faulty}
+use Rattle.code.specs.Op.{callNumber, scheduleNumber, ifNumber, jumpNumber, futureNumber, returnNumber, noNumber}
 
 -- the three words of an instruction
 pub record Words : Type 0 where

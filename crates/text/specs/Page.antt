@@ -1,4 +1,4 @@
--- The listing page by page: what stands in the lent slice, where a page ends, and that there is a line at least where there is room for one.
+-- The listing page by page: what stands in the lent slice, where a page ends, and that it has a line at least where one fits.
 -- Assumes nothing.
 use Prim.Native.Nat.{ℕ, zero, suc, _+_, _-_, _≤_, _<_, max}
 use mathlib.Core.Path.{_≡_}
