@@ -35,8 +35,9 @@ module _ (T : Tables) (F : Function) (readings : ℕ → List ℤ) where
     pub unit : at 0 .unit ≡ 0
     pub ports : (p : ℕ) → p < maxPorts → valueOf (at 0 .ports) p ≡ portFirst T p
     pub active : (t : ℕ) → at 0 .active t ≡ false
-    -- at its time stamp a configuration goes on to a successor, with the readings of that tick and the results of the tasks for their inputs
-    pub succeeds : (n : ℕ) → at n .time ≡ n → Successor T (results (programOf T) F (at n .ports)) (valueOf (readings n)) (at n) (at (suc n))
+    -- at its time stamp a configuration goes on to a successor, with the readings of that tick and the tasks' results for their inputs
+    pub succeeds : (n : ℕ) → at n .time ≡ n
+        → Successor T (results (programOf T) F (at n .ports)) (valueOf (readings n)) (at n) (at (suc n))
     -- at any other tick it stays, and no time stamp is missed
     pub waits : (n : ℕ) → (at n .time ≡ n → ⊥) → at (suc n) ≡ at n
     pub ahead : (n : ℕ) → n ≤ at n .time

@@ -1,6 +1,6 @@
--- The relation between Giotto's configuration and the machine's state (composed/specs/Related) that the proof of the composed run carries, as
--- statements: one tick keeps it, so it holds before every tick. For later requests and for whoever reads that proof; the demand itself is in
--- Composed.antt. Proved in proofs/Composed.antt. Assumes nothing.
+-- The relation between Giotto's configuration and the machine's state (composed/specs/Related) that the proof of the composed run
+-- carries, as statements: one tick keeps it, so it holds before every tick. For later requests and for whoever reads that proof; the
+-- demand itself is in Composed.antt. Proved in proofs/Composed.antt. Assumes nothing.
 use Prim.Native.Nat.{ℕ, suc, _<_}
 use mathlib.Core.Path.{_≡_}
 use mathlib.Core.List.{List}

@@ -34,7 +34,8 @@ pub record SupplierExact (L : Asked) : Type 0 where
   -- an execution time from 1 to the worst case for every release, every tick in which the supplier runs lies in one of its windows
   -- and every task has ended at each of its termination instants
   pub accepted : (supplierVerdict L ≡ record { number = 0; mode = 0; tick = 0 })
-      ↔ (Keep partRules L × ((m : ℕ) → m < modeCount (L .tables) → (c : Choice) → WithinWorst (courseOf L m) c → Good (courseOf L m) c nothing))
+      ↔ (Keep partRules L
+      × ((m : ℕ) → m < modeCount (L .tables) → (c : Choice) → WithinWorst (courseOf L m) c → Good (courseOf L m) c nothing))
   -- 14 and 15 exactly at their place
   pub outside-at : (m t : ℕ)
       → (supplierVerdict L ≡ record { number = 14; mode = m; tick = t }) ↔ (Keep partRules L × BreaksAt L m (outside t))

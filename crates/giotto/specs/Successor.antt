@@ -1,7 +1,7 @@
 -- 001's successor configuration (section 3.2), step by step and port by port, as a claim over the tables; bounded as in
--- document 01 (no private ports, a switch enters unit 0). 001's step 6 moves the unit before step 7 asks which tasks are due; 01's steps (5)
--- to (7) drive and release the tasks of the unit entered and move it last, and decide: so here. `instant` computes it, and nothing
--- else succeeds: `instant-succeeds` and `successor-one` in proofs/. Assumes nothing.
+-- document 01 (no private ports, a switch enters unit 0). 001's step 6 moves the unit before step 7 asks which tasks are due; 01's
+-- steps (5) to (7) drive and release the tasks of the unit entered and move it last, and decide: so here. `instant` computes it, and
+-- nothing else succeeds: `instant-succeeds` and `successor-one` in proofs/. Assumes nothing.
 use Prim.Native.Nat.{ℕ, suc, _+_, _/_, _%_, _<_}
 use mathlib.Core.Path.{_≡_}
 use mathlib.Core.Bool.{true}

@@ -41,8 +41,8 @@ pub record TaskPortFits (T : Tables) (k : ℕ) : Type 0 where
   pub task : tpTask T k < taskCount T
   pub port : tpPort T k < portCount T
 
--- drivers: kind 0 has 0 in its other three fields; kind 1 has a port, values low ≤ high, and low no reading only if high is too. (A number of
--- a lent slice is always a value; what is none is out of range, so that the rules speak of every list of numbers.)
+-- drivers: kind 0 has 0 in its other three fields; kind 1 has a port, values low ≤ high, and low no reading only if high is too. (A
+-- number of a lent slice is always a value; what is none is out of range, so that the rules speak of every list of numbers.)
 unfoldable pub alwaysFits : Tables → ℕ → Bool
 alwaysFits T d = eqb (guardKind T d) kindAlways && eqb (guardPort T d) 0 && eqZ (guardLow T d) (pos 0) && eqZ (guardHigh T d) (pos 0)
 

@@ -48,8 +48,8 @@ idleFits S i = eqb (rowKind S i) kindIdle && eqb (rowTask S i) 0
 unfoldable pub precedes : List ℤ → ℕ → ℕ → Bool
 precedes S i j = ltb (rowSupplier S i) (rowSupplier S j) || (eqb (rowSupplier S i) (rowSupplier S j) && ltb (rowAddress S i) (rowAddress S j))
 
--- row i is wrong by itself, or comes before the row above it (row 0 - 1 is row 0), where it is said of an address and a timeout whether a
--- `future` stands there and the timeout is within its delay
+-- row i is wrong by itself, or comes before the row above it (row 0 - 1 is row 0), where it is said of an address and a timeout
+-- whether a `future` stands there and the timeout is within its delay
 abbrev pub wrongRow : (ℕ → ℕ → Bool) → Tables → List ℤ → ℕ → Bool
 wrongRow within T S i =
     not

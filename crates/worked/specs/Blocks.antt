@@ -29,8 +29,8 @@ abbrev pub place : List Row → ℕ → ℕ → Place → Place
 place block zero e s = s
 place block (suc n) e s = place block n (suc e) (tick block e s)
 
--- F's supplier with an idle row and timeouts inside the units. In the block at 9: idle to 1, t2 to 3, t1 to 4; in the block at 15: t2, t1, to 5.
--- With worst-case times 4 and 2, t2 runs in ticks 1, 2, 5 and 6, t1 in ticks 3, 7, 8 and 9.
+-- F's supplier with an idle row and timeouts inside the units. In the block at 9: idle to 1, t2 to 3, t1 to 4; in the block at 15: t2,
+-- t1, to 5. With worst-case times 4 and 2, t2 runs in ticks 1, 2, 5 and 6, t1 in ticks 3, 7, 8 and 9.
 abbrev pub cutOff : List ℤ
 cutOff = numbers
     (0 ∷ 9 ∷ 1 ∷ 0 ∷ 1 ∷ 0 ∷ 9 ∷ 0 ∷ 1 ∷ 3 ∷ 0 ∷ 9 ∷ 0 ∷ 0 ∷ 4 ∷ 0 ∷ 15 ∷ 0 ∷ 1 ∷ 5 ∷ 0 ∷ 15 ∷ 0 ∷ 0 ∷ 5 ∷ [])

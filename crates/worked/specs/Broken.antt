@@ -15,8 +15,8 @@ extended taskPorts copies modePorts invocations updates start =
 -- a task of this supplier with this worst-case time, once in a mode of this period with an update of this frequency that moves nothing
 abbrev pub bounded : ℕ → ℕ → ℕ → ℕ → Tables
 bounded supplier worst period frequency =
-    tables [] (numbers (supplier ∷ worst ∷ [])) [] alwaysRow [] (numbers (period ∷ [])) [] (numbers (0 ∷ 1 ∷ 0 ∷ 0 ∷ [])) (numbers (0 ∷ frequency ∷ 0 ∷ []))
-    [] (pos 0)
+    tables [] (numbers (supplier ∷ worst ∷ [])) [] alwaysRow [] (numbers (period ∷ [])) []
+    (numbers (0 ∷ 1 ∷ 0 ∷ 0 ∷ [])) (numbers (0 ∷ frequency ∷ 0 ∷ [])) [] (pos 0)
 
 -- two windows of F's mode, of suppliers 0 and 1
 abbrev pub twoWindows : ℕ → ℕ → ℕ → ℕ → List ℤ
