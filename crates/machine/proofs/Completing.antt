@@ -16,17 +16,17 @@ use Rattle.program.specs.Ports.{valueOf, takes}
 use Rattle.program.proofs.Decoded.{task-row}
 use Rattle.runs.specs.Tick.{leftOf}
 use Rattle.machine.specs.declared.State.{State}
-use Rattle.machine.specs.Schedules.{outputsAfter}
+use Rattle.machine.specs.Schedules.{outputsAt, outputsAfter}
 use Rattle.machine.specs.Joined.{outputsBy}
 
 -- in its last tick a task completes, and its results are put into its local outputs
 pub outputs-done : (P : Program) (results : List ℤ) (s : State) (t : ℕ) → leftOf (s .left) t ≡ 1
     → outputsAfter P results s t ≡ puts (takes (valueOf results) (task P t .outputs)) (s .outputs)
-outputs-done P results s t e = rw (eq-eqb (leftOf (s .left) t) 1 e, outputsAfter)
+outputs-done P results s t e = rw (eq-eqb (leftOf (s .left) t) 1 e, outputsAt)
 
 -- in any other tick the local outputs are as before
 pub outputs-same : (P : Program) (results : List ℤ) (s : State) (t : ℕ) → (leftOf (s .left) t ≡ 1 → ⊥) → outputsAfter P results s t ≡ s .outputs
-outputs-same P results s t n = rw (ne-eqb (leftOf (s .left) t) 1 n, outputsAfter)
+outputs-same P results s t n = rw (ne-eqb (leftOf (s .left) t) 1 n, outputsAt)
 
 -- there are as many local outputs after it
 pub outputs-length : (P : Program) (results : List ℤ) (s : State) (t : ℕ) → length (outputsAfter P results s t) ≡ length (s .outputs)
@@ -41,5 +41,4 @@ outputs-length P results s t = go (eqb (leftOf (s .left) t) 1)
 pub outputs-declared : (T : Tables) (results : List ℤ) (s : State) (t : ℕ) → t < taskCount T
     → outputsBy T results s t ≡ outputsAfter (programOf T) results s t
 outputs-declared T results s t l =
-    ap (λ (k : Task). elim (eqb (leftOf (s .left) t) 1) [ true ↦ puts (takes (valueOf results) (k .outputs)) (s .outputs) | false ↦ s .outputs ])
-    (sym (task-row T t l))
+    ap (λ (k : Task). outputsAt (k .outputs) results s t) (sym (task-row T t l))

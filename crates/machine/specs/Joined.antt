@@ -5,15 +5,12 @@ use mathlib.Core.Bool.{true, false}
 use mathlib.Core.List.{List}
 use lib.Dec.{eqb}
 use lib.IntN.{ℤ}
-use Rattle.theory.specs.Lists.{puts}
 use Rattle.program.specs.Tables.{Tables, output}
 use Rattle.program.specs.Program.{portsOf}
-use Rattle.program.specs.Ports.{valueOf, takes}
-use Rattle.runs.specs.Tick.{leftOf}
 use Rattle.runs.specs.declared.turn.Turn.{Turn}
 use Rattle.machine.specs.declared.State.{State}
 use Rattle.machine.specs.declared.schedules.Running.{Running}
-use Rattle.machine.specs.Schedules.{several, told}
+use Rattle.machine.specs.Schedules.{several, told, outputsAt}
 
 -- one supplier's turn more
 unfoldable pub joinTold : Running → Turn → Running
@@ -22,9 +19,6 @@ joinTold before t = elim (t .runs) [
   | false ↦ before
 ]
 
--- the local outputs after a tick of task t, by the rows of the task ports: its results where it completes
+-- the local outputs after a tick of task t, by the rows of the task ports
 abbrev pub outputsBy : Tables → List ℤ → State → ℕ → List ℤ
-outputsBy T results s t = elim (eqb (leftOf (s .left) t) 1) [
-  | true ↦ puts (takes (valueOf results) (portsOf T output t)) (s .outputs)
-  | false ↦ s .outputs
-]
+outputsBy T results s t = outputsAt (portsOf T output t) results s t

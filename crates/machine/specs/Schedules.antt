@@ -73,12 +73,15 @@ told several = record { count = 2; job = record { 0 = 0 } }
 abbrev pub sharesOf : List ℤ → State → Shares
 sharesOf S s = record { running = told (running S s); positions = each (movedOf S s) suppliers 0 }
 
--- the local outputs after a tick of task t: its results where it completes
-abbrev pub outputsAfter : Program → List ℤ → State → ℕ → List ℤ
-outputsAfter P results s t = elim (eqb (leftOf (s .left) t) 1) [
-  | true ↦ puts (takes (valueOf results) (task P t .outputs)) (s .outputs)
+-- the local outputs after a tick of task t, which has these output ports: its results where it completes
+abbrev pub outputsAt : List ℕ → List ℤ → State → ℕ → List ℤ
+outputsAt ports results s t = elim (eqb (leftOf (s .left) t) 1) [
+  | true ↦ puts (takes (valueOf results) ports) (s .outputs)
   | false ↦ s .outputs
 ]
+
+abbrev pub outputsAfter : Program → List ℤ → State → ℕ → List ℤ
+outputsAfter P results s t = outputsAt (task P t .outputs) results s t
 
 -- the tick has passed: "after 4294967295 comes 0"
 abbrev pub tickPassed : State → List ℕ → List ℤ → List ℕ → State

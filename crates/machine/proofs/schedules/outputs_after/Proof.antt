@@ -2,7 +2,7 @@
 use mathlib.Core.Path.{sym, _∙_}
 use borrow.Author.Needs.{needs}
 use borrow.Author.Tests.{eq-eqb, ne-eqb}
-use Rattle.machine.specs.Joined.{outputsBy}
+use Rattle.machine.specs.Schedules.{outputsAt}
 use Rattle.machine.proofs.schedules.outputs_after.Statement.{statement}
 use Rattle.machine.proofs.schedules.outputs_after.Tie as tie
 
@@ -16,10 +16,10 @@ outputs-taken-requires : tie.Need-outputs-taken-requires
 outputs-taken-requires c κs = search needs
 
 returns : tie.Need-returns
-returns c T e f = c .outputs-taken .ensures T e f ∙ sym (rw (eq-eqb _ 1 (sym (c .before .before .left-of .ensures) ∙ c .before .if1 .taken), outputsBy))
+returns c T e f = c .outputs-taken .ensures T e f ∙ sym (rw (eq-eqb _ 1 (sym (c .before .before .left-of .ensures) ∙ c .before .if1 .taken), outputsAt))
 
 returns-2 : tie.Need-returns-2
-returns-2 c T e f = sym (rw (ne-eqb _ 1 (λ q. c .if1 .left (c .before .left-of .ensures ∙ q)), outputsBy))
+returns-2 c T e f = sym (rw (ne-eqb _ 1 (λ q. c .if1 .left (c .before .left-of .ensures ∙ q)), outputsAt))
 
 pub outputs-after-spec : {M : Type 1} → statement M
 outputs-after-spec =
