@@ -4,3 +4,4 @@ pub mod Programs
 pub mod Systems
 pub mod Blocks
 pub mod Broken
+pub mod Crowded
