@@ -32,7 +32,9 @@ fn shape_bad(
     switches: &[i32],
     windows: &[i32],
 ) -> bool
-    ensures { λ r. ⌜ ((start : ℤ) → r ≡ windowsShapeBad (windowed (tables (now (ports .entry)) (now (tasks .entry)) (now («task_ports» .entry)) (now (drivers .entry)) (now (copies .entry)) (now (modes .entry)) (now («mode_ports» .entry)) (now (invocations .entry)) (now (updates .entry)) (now (switches .entry)) start) (now (windows .entry)))) ⌝ }
+    ensures { λ r. ⌜ ((start : ℤ) → r ≡ windowsShapeBad (windowed (tables (now (ports .entry)) (now (tasks .entry))
+        (now («task_ports» .entry)) (now (drivers .entry)) (now (copies .entry)) (now (modes .entry)) (now («mode_ports» .entry))
+        (now (invocations .entry)) (now (updates .entry)) (now (switches .entry)) start) (now (windows .entry)))) ⌝ }
 {
     slices::shape_bad(
         ports,
@@ -64,8 +66,11 @@ fn shaped_verdict(
     start: i32,
     windows: &[i32],
 ) -> usize
-    requires { ⌜ shapeBad (tables (now ports) (now tasks) (now «task_ports») (now drivers) (now copies) (now modes) (now «mode_ports») (now invocations) (now updates) (now switches) start) ≡ false ⌝ }
-    ensures { λ r. ⌜ r ≡ shapedVerdict (windowed (tables (now (ports .entry)) (now (tasks .entry)) (now («task_ports» .entry)) (now (drivers .entry)) (now (copies .entry)) (now (modes .entry)) (now («mode_ports» .entry)) (now (invocations .entry)) (now (updates .entry)) (now (switches .entry)) start) (now (windows .entry))) ⌝ }
+    requires { ⌜ shapeBad (tables (now ports) (now tasks) (now «task_ports») (now drivers) (now copies) (now modes) (now «mode_ports»)
+        (now invocations) (now updates) (now switches) start) ≡ false ⌝ }
+    ensures { λ r. ⌜ r ≡ shapedVerdict (windowed (tables (now (ports .entry)) (now (tasks .entry)) (now («task_ports» .entry))
+        (now (drivers .entry)) (now (copies .entry)) (now (modes .entry)) (now («mode_ports» .entry)) (now (invocations .entry))
+        (now (updates .entry)) (now (switches .entry)) start) (now (windows .entry))) ⌝ }
 {
     let number = lent::lent_verdict(
         ports,
@@ -115,7 +120,9 @@ pub fn windows_verdict(
     start: i32,
     windows: &[i32],
 ) -> usize
-    ensures { λ r. ⌜ r ≡ windowsVerdict (windowed (tables (now (ports .entry)) (now (tasks .entry)) (now («task_ports» .entry)) (now (drivers .entry)) (now (copies .entry)) (now (modes .entry)) (now («mode_ports» .entry)) (now (invocations .entry)) (now (updates .entry)) (now (switches .entry)) start) (now (windows .entry))) ⌝ }
+    ensures { λ r. ⌜ r ≡ windowsVerdict (windowed (tables (now (ports .entry)) (now (tasks .entry)) (now («task_ports» .entry))
+        (now (drivers .entry)) (now (copies .entry)) (now (modes .entry)) (now («mode_ports» .entry)) (now (invocations .entry))
+        (now (updates .entry)) (now (switches .entry)) start) (now (windows .entry))) ⌝ }
 {
     if shape_bad(
         ports,
@@ -165,7 +172,9 @@ pub fn supplier_verdict(
     part: &[i32],
     supplier: i32,
 ) -> Answer
-    ensures { λ r. ⌜ r ≡ supplierVerdict (asked (tables (now (ports .entry)) (now (tasks .entry)) (now («task_ports» .entry)) (now (drivers .entry)) (now (copies .entry)) (now (modes .entry)) (now («mode_ports» .entry)) (now (invocations .entry)) (now (updates .entry)) (now (switches .entry)) start) (now (windows .entry)) (now (part .entry)) supplier) ⌝ }
+    ensures { λ r. ⌜ r ≡ supplierVerdict (asked (tables (now (ports .entry)) (now (tasks .entry)) (now («task_ports» .entry))
+        (now (drivers .entry)) (now (copies .entry)) (now (modes .entry)) (now («mode_ports» .entry)) (now (invocations .entry))
+        (now (updates .entry)) (now (switches .entry)) start) (now (windows .entry)) (now (part .entry)) supplier) ⌝ }
 {
     let shape = shape_bad(
         ports,

@@ -8,3 +8,4 @@ pub mod Fetch
 pub mod Inside
 pub mod Accepted
 pub mod Answers
+pub mod Said

@@ -28,7 +28,9 @@ pub fn listed(
     requires { ⌜ Within (lent (now ports) (now invocations) (now updates) (now switches)) ⌝ }
     requires { ⌜ Periods (now modes) ⌝ }
     requires { ⌜ rowsIn modeWidth (now modes) ≤ maxModes ⌝ }
-    ensures { λ r. ⌜ ((T : Tables) → T .ports ≡ now (ports .entry) → T .modes ≡ now (modes .entry) → T .invocations ≡ now (invocations .entry) → T .updates ≡ now (updates .entry) → T .switches ≡ now (switches .entry) → start .0 ≡ startMode T → programVerdict T ≡ 0 → outcome r (now (code .exit)) ≡ listed (compiling T (now (code .entry)))) ⌝ }
+    ensures { λ r. ⌜ ((T : Tables) → T .ports ≡ now (ports .entry) → T .modes ≡ now (modes .entry)
+        → T .invocations ≡ now (invocations .entry) → T .updates ≡ now (updates .entry) → T .switches ≡ now (switches .entry)
+        → start .0 ≡ startMode T → programVerdict T ≡ 0 → outcome r (now (code .exit)) ≡ listed (compiling T (now (code .entry)))) ⌝ }
 {
     let sensors = counts::sensors(ports);
     let laid = addresses::lay_out(modes, invocations, updates, switches, sensors);

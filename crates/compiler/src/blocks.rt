@@ -39,7 +39,8 @@ fn head(
     requires { ⌜ rowsIn portWidth (now ports) ≤ maxPorts ⌝ }
     requires { ⌜ rowsIn invocationWidth (now invocations) ≤ maxInvocations ⌝ }
     requires { ⌜ rowsIn updateWidth (now updates) ≤ maxUpdates ⌝ }
-    ensures { λ r. ⌜ written (now (code .exit)) r ≡ writes (headIn (now (ports .entry)) (now (invocations .entry)) (now (updates .entry)) when) (written (now (code .entry)) at) ⌝ }
+    ensures { λ r. ⌜ written (now (code .exit)) r ≡ writes (headIn (now (ports .entry)) (now (invocations .entry))
+        (now (updates .entry)) when) (written (now (code .entry)) at) ⌝ }
 {
     let output = Form {
         width: invocation::WIDTH,
@@ -106,7 +107,8 @@ pub fn parts(
     requires { ⌜ Addresses (now entries) ⌝ }
     requires { ⌜ at + mostBlock < greatestWord ⌝ }
     requires { ⌜ Aimed aim ⌝ }
-    ensures { λ r. ⌜ written (now (code .exit)) r ≡ writes (partsIn (lent (now (ports .entry)) (now (invocations .entry)) (now (updates .entry)) (now (switches .entry))) (now (entries .entry)) when aim) (written (now (code .entry)) at) ⌝ }
+    ensures { λ r. ⌜ written (now (code .exit)) r ≡ writes (partsIn (lent (now (ports .entry)) (now (invocations .entry))
+        (now (updates .entry)) (now (switches .entry))) (now (entries .entry)) when aim) (written (now (code .entry)) at) ⌝ }
 {
     let stub = aim.stub;
     let tests_at = head(code, at, ports, invocations, updates, when);

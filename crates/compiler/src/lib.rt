@@ -31,8 +31,12 @@ pub fn compile(
     start: i32,
     code: &mut [u32],
 ) -> Compiled
-    ensures answer { λ r. ⌜ r ≡ compileAnswer (compiling (tables (now (ports .entry)) (now (tasks .entry)) (now («task_ports» .entry)) (now (drivers .entry)) (now (copies .entry)) (now (modes .entry)) (now («mode_ports» .entry)) (now (invocations .entry)) (now (updates .entry)) (now (switches .entry)) start) (now (code .entry))) ⌝ }
-    ensures slice { λ r. ⌜ now (code .exit) ≡ compileSlice (compiling (tables (now (ports .entry)) (now (tasks .entry)) (now («task_ports» .entry)) (now (drivers .entry)) (now (copies .entry)) (now (modes .entry)) (now («mode_ports» .entry)) (now (invocations .entry)) (now (updates .entry)) (now (switches .entry)) start) (now (code .entry))) ⌝ }
+    ensures answer { λ r. ⌜ r ≡ compileAnswer (compiling (tables (now (ports .entry)) (now (tasks .entry)) (now («task_ports» .entry))
+        (now (drivers .entry)) (now (copies .entry)) (now (modes .entry)) (now («mode_ports» .entry)) (now (invocations .entry))
+        (now (updates .entry)) (now (switches .entry)) start) (now (code .entry))) ⌝ }
+    ensures slice { λ r. ⌜ now (code .exit) ≡ compileSlice (compiling (tables (now (ports .entry)) (now (tasks .entry))
+        (now («task_ports» .entry)) (now (drivers .entry)) (now (copies .entry)) (now (modes .entry)) (now («mode_ports» .entry))
+        (now (invocations .entry)) (now (updates .entry)) (now (switches .entry)) start) (now (code .entry))) ⌝ }
 {
     let number = verdict::program_verdict(
         ports,

@@ -41,7 +41,9 @@ fn one_mode(
     requires { ⌜ m < rowsIn modeWidth (now modes) ⌝ }
     requires { ⌜ m < maxModes ⌝ }
     requires { ⌜ at + mostMode < greatestWord ⌝ }
-    ensures { λ r. ⌜ ((T : Tables) → T .ports ≡ now (ports .entry) → T .modes ≡ now (modes .entry) → T .invocations ≡ now (invocations .entry) → T .updates ≡ now (updates .entry) → T .switches ≡ now (switches .entry) → written (now (code .exit)) r ≡ writes (modeIn T (now (entries .entry)) m at) (written (now (code .entry)) at)) ⌝ }
+    ensures { λ r. ⌜ ((T : Tables) → T .ports ≡ now (ports .entry) → T .modes ≡ now (modes .entry)
+        → T .invocations ≡ now (invocations .entry) → T .updates ≡ now (updates .entry) → T .switches ≡ now (switches .entry)
+        → written (now (code .exit)) r ≡ writes (modeIn T (now (entries .entry)) m at) (written (now (code .entry)) at)) ⌝ }
 {
     let own = Mode::of(m);
     let u = multiples::units(invocations, updates, switches, own);
@@ -80,7 +82,9 @@ fn all_modes(
     requires { ⌜ sensors ≡ length (sensorRows (now ports) (λ p. p)) ⌝ }
     requires { ⌜ Periods (now modes) ⌝ }
     requires { ⌜ rowsIn modeWidth (now modes) ≤ maxModes ⌝ }
-    ensures { λ r. ⌜ ((T : Tables) → T .ports ≡ now (ports .entry) → T .modes ≡ now (modes .entry) → T .invocations ≡ now (invocations .entry) → T .updates ≡ now (updates .entry) → T .switches ≡ now (switches .entry) → written (now (code .exit)) r ≡ writes (modesIn T (now (entries .entry)) (modeCount T)) (written (now (code .entry)) 1)) ⌝ }
+    ensures { λ r. ⌜ ((T : Tables) → T .ports ≡ now (ports .entry) → T .modes ≡ now (modes .entry)
+        → T .invocations ≡ now (invocations .entry) → T .updates ≡ now (updates .entry) → T .switches ≡ now (switches .entry)
+        → written (now (code .exit)) r ≡ writes (modesIn T (now (entries .entry)) (modeCount T)) (written (now (code .entry)) 1)) ⌝ }
 {
     let n = modes.len() / mode::WIDTH;
     let mut at = 1;
@@ -122,7 +126,10 @@ pub fn all(
     requires { ⌜ sensors ≡ length (sensorRows (now ports) (λ p. p)) ⌝ }
     requires { ⌜ Periods (now modes) ⌝ }
     requires { ⌜ rowsIn modeWidth (now modes) ≤ maxModes ⌝ }
-    ensures { λ r. ⌜ ((T : Tables) → T .ports ≡ now (ports .entry) → T .modes ≡ now (modes .entry) → T .invocations ≡ now (invocations .entry) → T .updates ≡ now (updates .entry) → T .switches ≡ now (switches .entry) → written (now (code .exit)) r ≡ writes (allIn T (now (entries .entry)) (getD (now (starts .entry)) (start .0) 0)) (written (now (code .entry)) 0)) ⌝ }
+    ensures { λ r. ⌜ ((T : Tables) → T .ports ≡ now (ports .entry) → T .modes ≡ now (modes .entry)
+        → T .invocations ≡ now (invocations .entry) → T .updates ≡ now (updates .entry) → T .switches ≡ now (switches .entry)
+        → written (now (code .exit)) r ≡ writes (allIn T (now (entries .entry)) (getD (now (starts .entry)) (start .0) 0)) (written
+        (now (code .entry)) 0)) ⌝ }
 {
     words::instruction(code, 0, numbers::JUMP, words::address(starts, start), 0);
     all_modes(

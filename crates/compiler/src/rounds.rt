@@ -71,7 +71,8 @@ fn block(
     requires { ⌜ round .first ≤ greatestWord ⌝ }
     requires { ⌜ unit < round .units ⌝ }
     requires { ⌜ at + mostBlock < greatestWord ⌝ }
-    ensures { λ r. ⌜ written (now (code .exit)) r ≡ writes (blockIn (lent (now (ports .entry)) (now (invocations .entry)) (now (updates .entry)) (now (switches .entry))) (now (entries .entry)) round unit at) (written (now (code .entry)) at) ⌝ }
+    ensures { λ r. ⌜ written (now (code .exit)) r ≡ writes (blockIn (lent (now (ports .entry)) (now (invocations .entry))
+        (now (updates .entry)) (now (switches .entry))) (now (entries .entry)) round unit at) (written (now (code .entry)) at) ⌝ }
 {
     let mode = round.mode;
     let when = Instant {
@@ -119,7 +120,8 @@ pub fn all_blocks(
     requires { ⌜ round .ticks ≤ greatestWord ⌝ }
     requires { ⌜ round .units ≤ suc maxUnits ⌝ }
     requires { ⌜ round .first + mostMode < greatestWord ⌝ }
-    ensures { λ r. ⌜ written (now (code .exit)) r ≡ writes (roundIn (lent (now (ports .entry)) (now (invocations .entry)) (now (updates .entry)) (now (switches .entry))) (now (entries .entry)) round) (written (now (code .entry)) (round .first)) ⌝ }
+    ensures { λ r. ⌜ written (now (code .exit)) r ≡ writes (roundIn (lent (now (ports .entry)) (now (invocations .entry))
+        (now (updates .entry)) (now (switches .entry))) (now (entries .entry)) round) (written (now (code .entry)) (round .first)) ⌝ }
 {
     let n = round.units;
     let mut at = round.first;

@@ -28,7 +28,8 @@ pub struct Form {
 fn due_row(code: &mut [u32], at: usize, t: &[i32], form: Form, when: Instant, i: usize) -> usize
     requires { ⌜ Formed form ⌝ }
     requires { ⌜ at ≤ greatestWord ⌝ }
-    ensures { λ r. ⌜ written (now (code .exit)) r ≡ writes (those (isDue (form .width) (now (t .entry)) when) (rowWords form (now (t .entry))) 1 i) (written (now (code .entry)) at) ⌝ }
+    ensures { λ r. ⌜ written (now (code .exit)) r ≡ writes (those (isDue (form .width) (now (t .entry)) when) (rowWords form
+        (now (t .entry))) 1 i) (written (now (code .entry)) at) ⌝ }
 {
     if due::row_due(t, form.width, when.mode, when.units, when.unit, i) {
         let name = words::named(t, form.width, i, form.column);

@@ -18,7 +18,8 @@ use code::numbers;
 fn sensor_row(code: &mut [u32], at: usize, ports: &[i32], p: usize) -> usize
     requires { ⌜ at ≤ greatestWord ⌝ }
     requires { ⌜ p ≤ maxPorts ⌝ }
-    ensures { λ r. ⌜ written (now (code .exit)) r ≡ writes (those (isSensor (now (ports .entry))) reading 1 p) (written (now (code .entry)) at) ⌝ }
+    ensures { λ r. ⌜ written (now (code .exit)) r ≡ writes (those (isSensor (now (ports .entry))) reading 1 p) (written
+        (now (code .entry)) at) ⌝ }
 {
     if table::field(ports, port::WIDTH, p, port::KIND) == port::SENSOR {
         return words::instruction(code, at, numbers::CALL, Program::SENSOR_CALL + p, 0);

@@ -29,7 +29,8 @@ fn test_row(
 ) -> usize
     requires { ⌜ at ≤ greatestWord ⌝ }
     requires { ⌜ stub ≤ greatestWord ⌝ }
-    ensures { λ r. ⌜ written (now (code .exit)) r ≡ writes (map three (testsOf (those (isDue switchWidth (now (switches .entry)) when) (switchIn (now (switches .entry))) 1 i) stub)) (written (now (code .entry)) at) ⌝ }
+    ensures { λ r. ⌜ written (now (code .exit)) r ≡ writes (map three (testsOf (those (isDue switchWidth (now (switches .entry)) when)
+        (switchIn (now (switches .entry))) 1 i) stub)) (written (now (code .entry)) at) ⌝ }
 {
     if due::row_due(switches, switch::WIDTH, when.mode, when.units, when.unit, i) {
         let driver = table::driver(switches, switch::WIDTH, i, switch::DRIVER);
@@ -42,7 +43,8 @@ fn test_row(
 pub fn tests(code: &mut [u32], at: usize, switches: &[i32], when: Instant, stub: usize) -> usize
     requires { ⌜ at + rowsIn switchWidth (now switches) ≤ greatestWord ⌝ }
     requires { ⌜ stub + 2 * rowsIn switchWidth (now switches) ≤ greatestWord ⌝ }
-    ensures { λ r. ⌜ written (now (code .exit)) r ≡ writes (map three (testsOf (switchesIn (now (switches .entry)) when) stub)) (written (now (code .entry)) at) ⌝ }
+    ensures { λ r. ⌜ written (now (code .exit)) r ≡ writes (map three (testsOf (switchesIn (now (switches .entry)) when) stub))
+        (written (now (code .entry)) at) ⌝ }
 {
     let n = switches.len() / switch::WIDTH;
     let mut next = at;
@@ -58,7 +60,8 @@ pub fn tests(code: &mut [u32], at: usize, switches: &[i32], when: Instant, stub:
 fn stub(code: &mut [u32], at: usize, driver: Driver, to: usize) -> usize
     requires { ⌜ at < greatestWord ⌝ }
     requires { ⌜ to ≤ greatestWord ⌝ }
-    ensures { λ r. ⌜ written (now (code .exit)) r ≡ writes (map three (callDriver (driver .0) ∷ jump to ∷ [])) (written (now (code .entry)) at) ⌝ }
+    ensures { λ r. ⌜ written (now (code .exit)) r ≡ writes (map three (callDriver (driver .0) ∷ jump to ∷ [])) (written
+        (now (code .entry)) at) ⌝ }
 {
     let next = words::instruction(code, at, numbers::CALL, driver.index(), 0);
     words::instruction(code, next, numbers::JUMP, to, 0)
@@ -75,7 +78,8 @@ fn stub_row(
 ) -> usize
     requires { ⌜ at < greatestWord ⌝ }
     requires { ⌜ Addresses (now entries) ⌝ }
-    ensures { λ r. ⌜ written (now (code .exit)) r ≡ writes (map three (stubsIn (now (entries .entry)) (those (isDue switchWidth (now (switches .entry)) when) (switchIn (now (switches .entry))) 1 i))) (written (now (code .entry)) at) ⌝ }
+    ensures { λ r. ⌜ written (now (code .exit)) r ≡ writes (map three (stubsIn (now (entries .entry)) (those (isDue switchWidth
+        (now (switches .entry)) when) (switchIn (now (switches .entry))) 1 i))) (written (now (code .entry)) at) ⌝ }
 {
     if due::row_due(switches, switch::WIDTH, when.mode, when.units, when.unit, i) {
         let driver = table::driver(switches, switch::WIDTH, i, switch::DRIVER);
@@ -95,7 +99,8 @@ pub fn stubs(
 ) -> usize
     requires { ⌜ at + 2 * rowsIn switchWidth (now switches) < greatestWord ⌝ }
     requires { ⌜ Addresses (now entries) ⌝ }
-    ensures { λ r. ⌜ written (now (code .exit)) r ≡ writes (map three (stubsIn (now (entries .entry)) (switchesIn (now (switches .entry)) when))) (written (now (code .entry)) at) ⌝ }
+    ensures { λ r. ⌜ written (now (code .exit)) r ≡ writes (map three (stubsIn (now (entries .entry)) (switchesIn
+        (now (switches .entry)) when))) (written (now (code .entry)) at) ⌝ }
 {
     let n = switches.len() / switch::WIDTH;
     let mut next = at;

@@ -21,7 +21,8 @@ fn mode_port_clash(ports: &[i32], mode_ports: &[i32], k: usize) -> bool
 
 // The lowest row that does; the number of rows where none does.
 pub fn first_mode_port_clash(ports: &[i32], mode_ports: &[i32]) -> usize
-    ensures { λ r. ⌜ ((T : Tables) → T .ports ≡ now (ports .entry) → T .modePorts ≡ now («mode_ports» .entry) → r ≡ first (modePortClash T) (modePortCount T)) ⌝ }
+    ensures { λ r. ⌜ ((T : Tables) → T .ports ≡ now (ports .entry) → T .modePorts ≡ now («mode_ports» .entry)
+        → r ≡ first (modePortClash T) (modePortCount T)) ⌝ }
 {
     let n = mode_ports.len() / mode_port::WIDTH;
     let mut k = 0;

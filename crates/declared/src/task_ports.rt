@@ -47,7 +47,8 @@ fn task_port_clash(ports: &[i32], task_ports: &[i32], k: usize) -> bool
 
 // The lowest row that does; the number of rows where none does.
 pub fn first_task_port_clash(ports: &[i32], task_ports: &[i32]) -> usize
-    ensures { λ r. ⌜ ((T : Tables) → T .ports ≡ now (ports .entry) → T .taskPorts ≡ now («task_ports» .entry) → r ≡ first (taskPortClash T) (taskPortCount T)) ⌝ }
+    ensures { λ r. ⌜ ((T : Tables) → T .ports ≡ now (ports .entry) → T .taskPorts ≡ now («task_ports» .entry)
+        → r ≡ first (taskPortClash T) (taskPortCount T)) ⌝ }
 {
     let n = task_ports.len() / task_port::WIDTH;
     let mut k = 0;

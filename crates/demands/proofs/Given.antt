@@ -10,15 +10,14 @@ use native.Mathlib.Omega.{arith}
 use lib.IntN.{ℤ, pos}
 use lib.ListN.{replicate}
 use Rattle.theory.specs.Lists.{those, gather, member, Put}
-use Rattle.theory.proofs.Bools.{is-true}
-use Rattle.theory.proofs.Members.{has-then, has-as, has-those, has-gather, member-says}
+use Rattle.theory.proofs.Members.{has-those, has-gather}
 use Rattle.theory.proofs.Puts.{Wrote, puts-length, puts-at}
 use Rattle.cells.specs.Limits.{maxPorts, maxTasks}
 use Rattle.program.specs.Tables.{Tables}
 use Rattle.program.specs.Program.{Program, programOf, task}
 use Rattle.program.specs.Ports.{valueOf, takes}
 use Rattle.program.proofs.Decoded.{output-declared}
-use Rattle.program.proofs.Ports.{wrote-takes}
+use Rattle.program.proofs.Ports.{takes-exactly}
 use Rattle.rules.specs.Verdict.{programVerdict}
 use Rattle.rules.proofs.Shape.{ports-few, tasks-few}
 use Rattle.rules.proofs.Accepted.{accepted-shaped}
@@ -59,16 +58,7 @@ given-fair Y a F lents n g = fair-below Y a F lents (suc n) (λ k l. g k (omega 
 pub given-right : GivenRight
 given-right Y a F lents n g = composed-run Y a .1 F lents n (λ k l. given-fair Y a F lents k (λ j b. g j (omega arith)))
 
--- ports that take values: p gets x exactly where it is one of them, and x its value
-takes-exactly : (value : ℕ → ℤ) (ps : List ℕ) (p : ℕ) (x : ℤ) → Wrote (takes value ps) p x ↔ ((member p ps ≡ true) × (x ≡ value p))
-takes-exactly value ps p x = (
-  λ w.
-      let h = wrote-takes value ps p x .0 w in
-      (is-true (member-says p ps) (has-as _ _ ps (λ q e. sym (e .0)) h), has-then _ ps (λ q e. e .1 ∙ ap value (e .0)) h),
-  λ (m, e). wrote-takes value ps p x .1 (has-as _ _ ps (λ q d. (sym d, e ∙ ap value d)) (member-says p ps .yes m)),
-)
-
--- and where the tasks that pass give values for their outputs, exactly where one of them has p as an output, and gives x for it
+-- where the tasks that pass give values for their outputs, p gets x exactly where one of them has p as an output, and gives x for it
 gives-exactly : (pass : ℕ → Bool) (value : ℕ → ℕ → ℤ) (outputs : ℕ → List ℕ) (n p : ℕ) (x : ℤ)
     → Wrote (gather (λ t. takes (value t) (outputs t)) (those pass (λ t. t) n 0)) p x
     ↔ ((t : ℕ) × (t < n) × (pass t ≡ true) × (member p (outputs t) ≡ true) × (x ≡ value t p))

@@ -2,13 +2,11 @@
 -- windows; the unit and its elapsed ticks are the tick's place in the round, and there is no other.
 -- Assumes nothing: the statement's premises are that the system is accepted and that the ticks are fair.
 use Prim.Native.Nat.{ℕ, suc, _<_}
-use mathlib.Core.Path.{_≡_, refl, sym, subst, _∙_}
-use mathlib.Core.Bool.{Bool, true, false}
+use mathlib.Core.Path.{_≡_, sym, subst, _∙_}
 use mathlib.Core.List.{List}
 use native.Mathlib.Omega.{arith}
-use lib.Dec.{eqb}
-use borrow.Author.Tests.{eqb-true}
-use Rattle.program.specs.Program.{Mode, programOf, mode, nextUnit}
+use Rattle.program.specs.Program.{programOf, mode}
+use Rattle.program.proofs.Decoded.{next-once}
 use Rattle.code.specs.Op.{instructions}
 use Rattle.giotto.specs.Instant.{Configuration, Function}
 use Rattle.machine.specs.Instant.{ok}
@@ -24,20 +22,9 @@ use Rattle.demands.specs.Kept.{InRound, PlaceOne, readyAt, WindowsKept}
 use Rattle.demands.proofs.Sound.{accepted-sound}
 use Rattle.demands.proofs.Composed.{is-compiled, related-always}
 
--- two units with the same next one are one
-next-one : (M : Mode) (k l : ℕ) → nextUnit M k ≡ nextUnit M l → k ≡ l
-next-one M k l = go (eqb (suc k) (M .units)) (eqb (suc l) (M .units)) refl refl
-  where
-    go : (x y : Bool) → eqb (suc k) (M .units) ≡ x → eqb (suc l) (M .units) ≡ y
-        → _≡_ {A = ℕ} (elim x [ true ↦ 0 | false ↦ suc k ]) (elim y [ true ↦ 0 | false ↦ suc l ]) → k ≡ l
-    go true true p q e = omega (arith, eqb-true (suc k) (M .units) p, eqb-true (suc l) (M .units) q)
-    go true false p q e = absurd (omega arith)
-    go false true p q e = absurd (omega arith)
-    go false false p q e = omega arith
-
 -- a tick has one place in the round
 pub place-one : PlaceOne
-place-one P n C k e l f a b = (next-one (mode P (C .mode)) k l (sym (a .next) ∙ b .next), omega (arith, a .stamp, b .stamp))
+place-one P n C k e l f a b = (next-once (mode P (C .mode)) k l (sym (a .next) ∙ b .next), omega (arith, a .stamp, b .stamp))
 
 -- while a unit goes on with a tick remaining, unit and elapsed ticks are the place
 going-place : (Y : System) (F : Function) (k n : ℕ) (C : Configuration) (u : State)

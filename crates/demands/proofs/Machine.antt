@@ -4,13 +4,18 @@ use Prim.Native.Nat.{ℕ, _+_, _%_, _^_, _≤_, _<_}
 use mathlib.Core.Path.{_≡_, ap, subst, _∙_}
 use mathlib.Core.Logic.{_⊎_, inl, inr}
 use Rattle.code.proofs.Fetch.{instructions-length}
+use Rattle.code.proofs.Said.{code-says}
 use Rattle.machine.specs.declared.State.{State}
 use Rattle.machine.specs.Comes.{program, code}
 use Rattle.machine.specs.Moves.{InstantKeeps}
 use Rattle.machine.proofs.Exact.{advance-faulty, advance-time, advance-overruns, advance-runs-on, advance-collides}
 use Rattle.machine.proofs.Moved as moved
-use Rattle.demands.specs.Machine.{FaultyExact, TimeExact, OverrunExact, CountExact, CollisionExact, AdvanceMoves, TimeMoves, InstantCounted}
+use Rattle.demands.specs.Machine.{WordsExact, FaultyExact, TimeExact, OverrunExact, CountExact, CollisionExact, AdvanceMoves, TimeMoves, InstantCounted}
 use Rattle.demands.proofs.Calls.{advance-kept}
+
+-- what the words of lent code say
+pub words-exact : WordsExact
+words-exact code i l o d = code-says code i l o d
 
 -- 19, 16, 17, 20 and 18
 pub faulty-exact : FaultyExact

@@ -1,16 +1,27 @@
 -- Demand 1 for the machine, as statements about what an advance returns: each of 16 to 20 under exactly its condition, order included;
 -- what an accepted advance changes, and how long its instant may be. (The numbers before anything runs, and that a refusal hands the
 -- state back: `AdvanceExact` in Calls.antt.) Proved in proofs/Machine.antt. Assumes nothing.
-use Prim.Native.Nat.{_+_, _/_, _%_, _^_, _<_}
+use Prim.Native.Nat.{ℕ, _+_, _*_, _/_, _%_, _^_, _<_}
 use mathlib.Core.Path.{_≡_}
+use mathlib.Core.List.{List, [], _∷_}
 use mathlib.Core.Logic.{_↔_}
-use lib.ListN.{length}
+use lib.ListN.{length, getD}
 use Rattle.theory.specs.Verdict.{Keep}
+use Rattle.cells.specs.Cell.{wordAt}
 use Rattle.cells.specs.Limits.{wordsEach}
+use Rattle.code.specs.Op.{Op, faulty, words, instructions}
 use Rattle.machine.specs.declared.State.{State}
 use Rattle.machine.specs.Advance.{Advance, advanceRules, advanceAnswer}
 use Rattle.machine.specs.Comes.{Faults, TimeWrong, Overruns, RunsOn, Collides, Returns}
 use Rattle.machine.specs.Moves.{Advances}
+
+-- "One instruction is three unsigned 32-bit words, unused words 0": of lent code, instruction i is o exactly where its three words are those
+-- of o. All else is faulty
+abbrev pub WordsExact : Type 0
+WordsExact =
+    (code : List ℕ) (i : ℕ) → i < length code / wordsEach → (o : Op) → (o ≡ faulty → ⊥)
+    → (getD (instructions code) i faulty ≡ o)
+    ↔ (words o ≡ wordAt code (i * wordsEach) ∷ wordAt code (i * wordsEach + 1) ∷ wordAt code (i * wordsEach + 2) ∷ [])
 
 -- 19: the instant comes to a faulty instruction, or runs off the end
 abbrev pub FaultyExact : Type 0

@@ -44,7 +44,8 @@ pub fn task_bad(tasks: &[i32], row: usize) -> bool
 
 // No such task, or no such port.
 pub fn task_port_bad(ports: &[i32], tasks: &[i32], task_ports: &[i32], row: usize) -> bool
-    ensures { λ r. ⌜ ((T : Tables) → T .ports ≡ now (ports .entry) → T .tasks ≡ now (tasks .entry) → T .taskPorts ≡ now («task_ports» .entry) → r ≡ taskPortBad T row) ⌝ }
+    ensures { λ r. ⌜ ((T : Tables) → T .ports ≡ now (ports .entry) → T .tasks ≡ now (tasks .entry)
+        → T .taskPorts ≡ now («task_ports» .entry) → r ≡ taskPortBad T row) ⌝ }
 {
     let t = table::task(task_ports, task_port::WIDTH, row, task_port::TASK).index();
     let p = table::port(task_ports, task_port::WIDTH, row, task_port::PORT).index();
@@ -86,7 +87,8 @@ pub fn driver_bad(ports: &[i32], drivers: &[i32], row: usize) -> bool
 
 // No such driver, source or destination.
 pub fn copy_bad(ports: &[i32], drivers: &[i32], copies: &[i32], row: usize) -> bool
-    ensures { λ r. ⌜ ((T : Tables) → T .ports ≡ now (ports .entry) → T .drivers ≡ now (drivers .entry) → T .copies ≡ now (copies .entry) → r ≡ copyBad T row) ⌝ }
+    ensures { λ r. ⌜ ((T : Tables) → T .ports ≡ now (ports .entry) → T .drivers ≡ now (drivers .entry)
+        → T .copies ≡ now (copies .entry) → r ≡ copyBad T row) ⌝ }
 {
     let d = table::driver(copies, copy::WIDTH, row, copy::DRIVER).index();
     let from = table::port(copies, copy::WIDTH, row, copy::SOURCE).index();
@@ -107,7 +109,8 @@ pub fn mode_bad(modes: &[i32], row: usize) -> bool
 
 // No such mode, or no such port.
 pub fn mode_port_bad(ports: &[i32], modes: &[i32], mode_ports: &[i32], row: usize) -> bool
-    ensures { λ r. ⌜ ((T : Tables) → T .ports ≡ now (ports .entry) → T .modes ≡ now (modes .entry) → T .modePorts ≡ now («mode_ports» .entry) → r ≡ modePortBad T row) ⌝ }
+    ensures { λ r. ⌜ ((T : Tables) → T .ports ≡ now (ports .entry) → T .modes ≡ now (modes .entry)
+        → T .modePorts ≡ now («mode_ports» .entry) → r ≡ modePortBad T row) ⌝ }
 {
     let m = table::mode(mode_ports, mode_port::WIDTH, row, mode_port::MODE).index();
     let p = table::port(mode_ports, mode_port::WIDTH, row, mode_port::PORT).index();
@@ -122,7 +125,8 @@ pub fn invocation_bad(
     invocations: &[i32],
     row: usize,
 ) -> bool
-    ensures { λ r. ⌜ ((T : Tables) → T .tasks ≡ now (tasks .entry) → T .drivers ≡ now (drivers .entry) → T .modes ≡ now (modes .entry) → T .invocations ≡ now (invocations .entry) → r ≡ invocationBad T row) ⌝ }
+    ensures { λ r. ⌜ ((T : Tables) → T .tasks ≡ now (tasks .entry) → T .drivers ≡ now (drivers .entry)
+        → T .modes ≡ now (modes .entry) → T .invocations ≡ now (invocations .entry) → r ≡ invocationBad T row) ⌝ }
 {
     let m = table::mode(invocations, invocation::WIDTH, row, invocation::MODE).index();
     let frequency = table::field(invocations, invocation::WIDTH, row, invocation::FREQUENCY);
@@ -137,7 +141,8 @@ pub fn invocation_bad(
 
 // No such mode or driver, or a frequency out of range.
 pub fn update_bad(drivers: &[i32], modes: &[i32], updates: &[i32], row: usize) -> bool
-    ensures { λ r. ⌜ ((T : Tables) → T .drivers ≡ now (drivers .entry) → T .modes ≡ now (modes .entry) → T .updates ≡ now (updates .entry) → r ≡ updateBad T row) ⌝ }
+    ensures { λ r. ⌜ ((T : Tables) → T .drivers ≡ now (drivers .entry) → T .modes ≡ now (modes .entry)
+        → T .updates ≡ now (updates .entry) → r ≡ updateBad T row) ⌝ }
 {
     let m = table::mode(updates, update::WIDTH, row, update::MODE).index();
     let frequency = table::field(updates, update::WIDTH, row, update::FREQUENCY);
@@ -148,7 +153,8 @@ pub fn update_bad(drivers: &[i32], modes: &[i32], updates: &[i32], row: usize) -
 
 // No such mode, target or driver, or a frequency out of range.
 pub fn switch_bad(drivers: &[i32], modes: &[i32], switches: &[i32], row: usize) -> bool
-    ensures { λ r. ⌜ ((T : Tables) → T .drivers ≡ now (drivers .entry) → T .modes ≡ now (modes .entry) → T .switches ≡ now (switches .entry) → r ≡ switchBad T row) ⌝ }
+    ensures { λ r. ⌜ ((T : Tables) → T .drivers ≡ now (drivers .entry) → T .modes ≡ now (modes .entry)
+        → T .switches ≡ now (switches .entry) → r ≡ switchBad T row) ⌝ }
 {
     let m = table::mode(switches, switch::WIDTH, row, switch::MODE).index();
     let frequency = table::field(switches, switch::WIDTH, row, switch::FREQUENCY);

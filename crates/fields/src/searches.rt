@@ -45,7 +45,8 @@ pub fn first_bad_task(tasks: &[i32]) -> usize
 }
 
 pub fn first_bad_task_port(ports: &[i32], tasks: &[i32], task_ports: &[i32]) -> usize
-    ensures { λ r. ⌜ ((T : Tables) → T .ports ≡ now (ports .entry) → T .tasks ≡ now (tasks .entry) → T .taskPorts ≡ now («task_ports» .entry) → r ≡ first (taskPortBad T) (taskPortCount T)) ⌝ }
+    ensures { λ r. ⌜ ((T : Tables) → T .ports ≡ now (ports .entry) → T .tasks ≡ now (tasks .entry)
+        → T .taskPorts ≡ now («task_ports» .entry) → r ≡ first (taskPortBad T) (taskPortCount T)) ⌝ }
 {
     let n = task_ports.len() / task_port::WIDTH;
     let mut i = 0;
@@ -59,7 +60,8 @@ pub fn first_bad_task_port(ports: &[i32], tasks: &[i32], task_ports: &[i32]) -> 
 }
 
 pub fn first_bad_driver(ports: &[i32], drivers: &[i32]) -> usize
-    ensures { λ r. ⌜ ((T : Tables) → T .ports ≡ now (ports .entry) → T .drivers ≡ now (drivers .entry) → r ≡ first (driverBad T) (driverCount T)) ⌝ }
+    ensures { λ r. ⌜ ((T : Tables) → T .ports ≡ now (ports .entry) → T .drivers ≡ now (drivers .entry)
+        → r ≡ first (driverBad T) (driverCount T)) ⌝ }
 {
     let n = drivers.len() / driver::WIDTH;
     let mut i = 0;
@@ -73,7 +75,8 @@ pub fn first_bad_driver(ports: &[i32], drivers: &[i32]) -> usize
 }
 
 pub fn first_bad_copy(ports: &[i32], drivers: &[i32], copies: &[i32]) -> usize
-    ensures { λ r. ⌜ ((T : Tables) → T .ports ≡ now (ports .entry) → T .drivers ≡ now (drivers .entry) → T .copies ≡ now (copies .entry) → r ≡ first (copyBad T) (copyCount T)) ⌝ }
+    ensures { λ r. ⌜ ((T : Tables) → T .ports ≡ now (ports .entry) → T .drivers ≡ now (drivers .entry)
+        → T .copies ≡ now (copies .entry) → r ≡ first (copyBad T) (copyCount T)) ⌝ }
 {
     let n = copies.len() / copy::WIDTH;
     let mut i = 0;
@@ -101,7 +104,8 @@ pub fn first_bad_mode(modes: &[i32]) -> usize
 }
 
 pub fn first_bad_mode_port(ports: &[i32], modes: &[i32], mode_ports: &[i32]) -> usize
-    ensures { λ r. ⌜ ((T : Tables) → T .ports ≡ now (ports .entry) → T .modes ≡ now (modes .entry) → T .modePorts ≡ now («mode_ports» .entry) → r ≡ first (modePortBad T) (modePortCount T)) ⌝ }
+    ensures { λ r. ⌜ ((T : Tables) → T .ports ≡ now (ports .entry) → T .modes ≡ now (modes .entry)
+        → T .modePorts ≡ now («mode_ports» .entry) → r ≡ first (modePortBad T) (modePortCount T)) ⌝ }
 {
     let n = mode_ports.len() / mode_port::WIDTH;
     let mut i = 0;
@@ -120,7 +124,9 @@ pub fn first_bad_invocation(
     modes: &[i32],
     invocations: &[i32],
 ) -> usize
-    ensures { λ r. ⌜ ((T : Tables) → T .tasks ≡ now (tasks .entry) → T .drivers ≡ now (drivers .entry) → T .modes ≡ now (modes .entry) → T .invocations ≡ now (invocations .entry) → r ≡ first (invocationBad T) (invocationCount T)) ⌝ }
+    ensures { λ r. ⌜ ((T : Tables) → T .tasks ≡ now (tasks .entry) → T .drivers ≡ now (drivers .entry)
+        → T .modes ≡ now (modes .entry) → T .invocations ≡ now (invocations .entry)
+        → r ≡ first (invocationBad T) (invocationCount T)) ⌝ }
 {
     let n = invocations.len() / invocation::WIDTH;
     let mut i = 0;
@@ -134,7 +140,8 @@ pub fn first_bad_invocation(
 }
 
 pub fn first_bad_update(drivers: &[i32], modes: &[i32], updates: &[i32]) -> usize
-    ensures { λ r. ⌜ ((T : Tables) → T .drivers ≡ now (drivers .entry) → T .modes ≡ now (modes .entry) → T .updates ≡ now (updates .entry) → r ≡ first (updateBad T) (updateCount T)) ⌝ }
+    ensures { λ r. ⌜ ((T : Tables) → T .drivers ≡ now (drivers .entry) → T .modes ≡ now (modes .entry)
+        → T .updates ≡ now (updates .entry) → r ≡ first (updateBad T) (updateCount T)) ⌝ }
 {
     let n = updates.len() / update::WIDTH;
     let mut i = 0;
@@ -148,7 +155,8 @@ pub fn first_bad_update(drivers: &[i32], modes: &[i32], updates: &[i32]) -> usiz
 }
 
 pub fn first_bad_switch(drivers: &[i32], modes: &[i32], switches: &[i32]) -> usize
-    ensures { λ r. ⌜ ((T : Tables) → T .drivers ≡ now (drivers .entry) → T .modes ≡ now (modes .entry) → T .switches ≡ now (switches .entry) → r ≡ first (switchBad T) (switchCount T)) ⌝ }
+    ensures { λ r. ⌜ ((T : Tables) → T .drivers ≡ now (drivers .entry) → T .modes ≡ now (modes .entry)
+        → T .switches ≡ now (switches .entry) → r ≡ first (switchBad T) (switchCount T)) ⌝ }
 {
     let n = switches.len() / switch::WIDTH;
     let mut i = 0;
@@ -169,7 +177,10 @@ fn declarations_bad(
     drivers: &[i32],
     copies: &[i32],
 ) -> bool
-    ensures { λ r. ⌜ ((T : Tables) → T .ports ≡ now (ports .entry) → T .tasks ≡ now (tasks .entry) → T .taskPorts ≡ now («task_ports» .entry) → T .drivers ≡ now (drivers .entry) → T .copies ≡ now (copies .entry) → r ≡ (any (portBad T) (portCount T) || any (taskBad T) (taskCount T) || any (taskPortBad T) (taskPortCount T) || any (driverBad T) (driverCount T) || any (copyBad T) (copyCount T))) ⌝ }
+    ensures { λ r. ⌜ ((T : Tables) → T .ports ≡ now (ports .entry) → T .tasks ≡ now (tasks .entry)
+        → T .taskPorts ≡ now («task_ports» .entry) → T .drivers ≡ now (drivers .entry) → T .copies ≡ now (copies .entry)
+        → r ≡ (any (portBad T) (portCount T) || any (taskBad T) (taskCount T) || any (taskPortBad T) (taskPortCount T) || any
+        (driverBad T) (driverCount T) || any (copyBad T) (copyCount T))) ⌝ }
 {
     if first_bad_port(ports) < ports.len() / port::WIDTH {
         return true;
@@ -200,7 +211,9 @@ pub fn fields_bad(
     switches: &[i32],
     start: i32,
 ) -> bool
-    ensures { λ r. ⌜ r ≡ fieldsBad (tables (now (ports .entry)) (now (tasks .entry)) (now («task_ports» .entry)) (now (drivers .entry)) (now (copies .entry)) (now (modes .entry)) (now («mode_ports» .entry)) (now (invocations .entry)) (now (updates .entry)) (now (switches .entry)) start) ⌝ }
+    ensures { λ r. ⌜ r ≡ fieldsBad (tables (now (ports .entry)) (now (tasks .entry)) (now («task_ports» .entry))
+        (now (drivers .entry)) (now (copies .entry)) (now (modes .entry)) (now («mode_ports» .entry)) (now (invocations .entry))
+        (now (updates .entry)) (now (switches .entry)) start) ⌝ }
 {
     if declarations_bad(ports, tasks, task_ports, drivers, copies) {
         return true;

@@ -38,7 +38,9 @@ pub fn shape_bad(
     updates: &[i32],
     switches: &[i32],
 ) -> bool
-    ensures { λ r. ⌜ ((start : ℤ) → r ≡ shapeBad (tables (now (ports .entry)) (now (tasks .entry)) (now («task_ports» .entry)) (now (drivers .entry)) (now (copies .entry)) (now (modes .entry)) (now («mode_ports» .entry)) (now (invocations .entry)) (now (updates .entry)) (now (switches .entry)) start)) ⌝ }
+    ensures { λ r. ⌜ ((start : ℤ) → r ≡ shapeBad (tables (now (ports .entry)) (now (tasks .entry)) (now («task_ports» .entry))
+        (now (drivers .entry)) (now (copies .entry)) (now (modes .entry)) (now («mode_ports» .entry)) (now (invocations .entry))
+        (now (updates .entry)) (now (switches .entry)) start)) ⌝ }
 {
     bad_slice(ports, port::WIDTH, Program::PORTS)
         | bad_slice(tasks, task::WIDTH, Program::TASKS)

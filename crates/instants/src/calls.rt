@@ -32,7 +32,8 @@ const LAST_OUTPUT_CALL: usize = Program::SENSOR_CALL - 1;
 // A driver copies, if its guard holds.
 fn driver_call(drivers: &[i32], copies: &[i32], d: usize, s: State) -> Advanced
     requires { ⌜ rowsIn driverWidth (now drivers) ≤ maxDrivers ⌝ }
-    ensures { λ r. ⌜ ((T : Tables) → T .drivers ≡ now (drivers .entry) → T .copies ≡ now (copies .entry) → (readings times : List ℤ) → r ≡ callAnswer (programOf T) readings times s (driverCall d)) ⌝ }
+    ensures { λ r. ⌜ ((T : Tables) → T .drivers ≡ now (drivers .entry) → T .copies ≡ now (copies .entry) → (readings times : List ℤ)
+        → r ≡ callAnswer (programOf T) readings times s (driverCall d)) ⌝ }
 {
     if drivers.len() / driver::WIDTH <= d {
         return Advanced {
@@ -53,7 +54,9 @@ fn driver_call(drivers: &[i32], copies: &[i32], d: usize, s: State) -> Advanced
 // A task's outputs take its local outputs, if it has ended.
 fn output_call(ports: &[i32], tasks: &[i32], task_ports: &[i32], t: usize, s: State) -> Advanced
     requires { ⌜ rowsIn taskWidth (now tasks) ≤ maxTasks ⌝ }
-    ensures { λ r. ⌜ ((T : Tables) → T .ports ≡ now (ports .entry) → T .tasks ≡ now (tasks .entry) → T .taskPorts ≡ now («task_ports» .entry) → (readings times : List ℤ) → r ≡ callAnswer (programOf T) readings times s (outputCall t)) ⌝ }
+    ensures { λ r. ⌜ ((T : Tables) → T .ports ≡ now (ports .entry) → T .tasks ≡ now (tasks .entry)
+        → T .taskPorts ≡ now («task_ports» .entry) → (readings times : List ℤ)
+        → r ≡ callAnswer (programOf T) readings times s (outputCall t)) ⌝ }
 {
     if tasks.len() / task::WIDTH <= t {
         return Advanced {
@@ -83,7 +86,8 @@ fn output_call(ports: &[i32], tasks: &[i32], task_ports: &[i32], t: usize, s: St
 // A sensor is read.
 fn sensor_call(ports: &[i32], readings: &[i32], p: usize, s: State) -> Advanced
     requires { ⌜ rowsIn portWidth (now ports) ≤ maxPorts ⌝ }
-    ensures { λ r. ⌜ ((T : Tables) → T .ports ≡ now (ports .entry) → (times : List ℤ) → r ≡ callAnswer (programOf T) (now (readings .entry)) times s (sensorCall p)) ⌝ }
+    ensures { λ r. ⌜ ((T : Tables) → T .ports ≡ now (ports .entry) → (times : List ℤ)
+        → r ≡ callAnswer (programOf T) (now (readings .entry)) times s (sensorCall p)) ⌝ }
 {
     let own = Port::of(p);
     if !members::is_kind(ports, port::SENSOR, own) {
@@ -114,7 +118,9 @@ pub fn call(
     s: State,
 ) -> Advanced
     requires { ⌜ Named (now ports) (now tasks) (now drivers) ⌝ }
-    ensures { λ r. ⌜ ((T : Tables) → T .ports ≡ now (ports .entry) → T .tasks ≡ now (tasks .entry) → T .taskPorts ≡ now («task_ports» .entry) → T .drivers ≡ now (drivers .entry) → T .copies ≡ now (copies .entry) → (times : List ℤ) → r ≡ callAnswer (programOf T) (now (readings .entry)) times s (callOf n)) ⌝ }
+    ensures { λ r. ⌜ ((T : Tables) → T .ports ≡ now (ports .entry) → T .tasks ≡ now (tasks .entry)
+        → T .taskPorts ≡ now («task_ports» .entry) → T .drivers ≡ now (drivers .entry) → T .copies ≡ now (copies .entry)
+        → (times : List ℤ) → r ≡ callAnswer (programOf T) (now (readings .entry)) times s (callOf n)) ⌝ }
 {
     match n {
         DRIVER_CALL..=LAST_DRIVER_CALL => driver_call(drivers, copies, n, s),

@@ -43,7 +43,16 @@ fn refused(number: usize, at: At) -> Stepped
 // On to the next address, with this state.
 fn moved(at: At, state: State) -> Stepped
     requires { ⌜ at .address < addressEnd ⌝ }
-    ensures { λ r. ⌜ r ≡ record { number = 0; over = false; at = record { address = suc (at .address); planned = at .planned; state = state } } ⌝ }
+    ensures { λ r. ⌜ r ≡ record {
+      number = 0;
+      over = false;
+      at = record {
+        address = suc
+            (at .address);
+        planned = at .planned;
+        state = state;
+      };
+    } ⌝ }
 {
     Stepped {
         number: 0,
@@ -70,7 +79,10 @@ fn call(
 ) -> Stepped
     requires { ⌜ Named (now ports) (now tasks) (now drivers) ⌝ }
     requires { ⌜ at .address < addressEnd ⌝ }
-    ensures { λ r. ⌜ ((T : Tables) → T .ports ≡ now (ports .entry) → T .tasks ≡ now (tasks .entry) → T .taskPorts ≡ now («task_ports» .entry) → T .drivers ≡ now (drivers .entry) → T .copies ≡ now (copies .entry) → (times : List ℤ) (count : ℕ) → r ≡ stepped (programOf T) (now (readings .entry)) times count (decode callNumber n unused) at) ⌝ }
+    ensures { λ r. ⌜ ((T : Tables) → T .ports ≡ now (ports .entry) → T .tasks ≡ now (tasks .entry)
+        → T .taskPorts ≡ now («task_ports» .entry) → T .drivers ≡ now (drivers .entry) → T .copies ≡ now (copies .entry)
+        → (times : List ℤ) (count : ℕ) → r ≡ stepped (programOf T) (now (readings .entry)) times count
+        (decode callNumber n unused) at) ⌝ }
 {
     if 0 < unused {
         return refused(19, at);
@@ -97,7 +109,8 @@ fn call(
 fn schedule(tasks: &[i32], times: &[i32], t: usize, unused: usize, at: At) -> Stepped
     requires { ⌜ rowsIn taskWidth (now tasks) ≤ maxTasks ⌝ }
     requires { ⌜ at .address < addressEnd ⌝ }
-    ensures { λ r. ⌜ ((T : Tables) → T .tasks ≡ now (tasks .entry) → (readings : List ℤ) (count : ℕ) → r ≡ stepped (programOf T) readings (now (times .entry)) count (decode scheduleNumber t unused) at) ⌝ }
+    ensures { λ r. ⌜ ((T : Tables) → T .tasks ≡ now (tasks .entry) → (readings : List ℤ) (count : ℕ)
+        → r ≡ stepped (programOf T) readings (now (times .entry)) count (decode scheduleNumber t unused) at) ⌝ }
 {
     if (0 < unused) | (tasks.len() / task::WIDTH <= t) {
         return refused(19, at);
@@ -122,7 +135,8 @@ fn schedule(tasks: &[i32], times: &[i32], t: usize, unused: usize, at: At) -> St
 fn branch(drivers: &[i32], count: usize, d: usize, to: usize, at: At) -> Stepped
     requires { ⌜ rowsIn driverWidth (now drivers) ≤ maxDrivers ⌝ }
     requires { ⌜ at .address < addressEnd ⌝ }
-    ensures { λ r. ⌜ ((T : Tables) → T .drivers ≡ now (drivers .entry) → (readings times : List ℤ) → r ≡ stepped (programOf T) readings times count (decode ifNumber d to) at) ⌝ }
+    ensures { λ r. ⌜ ((T : Tables) → T .drivers ≡ now (drivers .entry) → (readings times : List ℤ)
+        → r ≡ stepped (programOf T) readings times count (decode ifNumber d to) at) ⌝ }
 {
     if (drivers.len() / driver::WIDTH <= d) | (count <= to) {
         return refused(19, at);
@@ -137,7 +151,8 @@ fn branch(drivers: &[i32], count: usize, d: usize, to: usize, at: At) -> Stepped
 
 // `jump address`.
 fn jump(count: usize, to: usize, unused: usize, at: At) -> Stepped
-    ensures { λ r. ⌜ ((T : Tables) (readings times : List ℤ) → r ≡ stepped (programOf T) readings times count (decode jumpNumber to unused) at) ⌝ }
+    ensures { λ r. ⌜ ((T : Tables) (readings times : List ℤ)
+        → r ≡ stepped (programOf T) readings times count (decode jumpNumber to unused) at) ⌝ }
 {
     if (0 < unused) | (count <= to) {
         return refused(19, at);
@@ -154,7 +169,8 @@ fn jump(count: usize, to: usize, unused: usize, at: At) -> Stepped
 // `future delay address`: a block begins here, and all suppliers are at its start.
 fn future(count: usize, delay: usize, to: usize, at: At) -> Stepped
     requires { ⌜ at .address < addressEnd ⌝ }
-    ensures { λ r. ⌜ ((T : Tables) (readings times : List ℤ) → r ≡ stepped (programOf T) readings times count (decode futureNumber delay to) at) ⌝ }
+    ensures { λ r. ⌜ ((T : Tables) (readings times : List ℤ)
+        → r ≡ stepped (programOf T) readings times count (decode futureNumber delay to) at) ⌝ }
 {
     let in_range = (1 <= delay) & (delay <= Program::DELAY);
     if at.planned | !in_range | (count <= to) {
@@ -179,7 +195,8 @@ fn future(count: usize, delay: usize, to: usize, at: At) -> Stepped
 
 // `return`: the instant is over, if a `future` was executed in it.
 fn finish(first: usize, second: usize, at: At) -> Stepped
-    ensures { λ r. ⌜ ((T : Tables) (readings times : List ℤ) (count : ℕ) → r ≡ stepped (programOf T) readings times count (decode returnNumber first second) at) ⌝ }
+    ensures { λ r. ⌜ ((T : Tables) (readings times : List ℤ) (count : ℕ)
+        → r ≡ stepped (programOf T) readings times count (decode returnNumber first second) at) ⌝ }
 {
     if (0 < first) | (0 < second) | !at.planned {
         return refused(19, at);
@@ -204,7 +221,9 @@ pub fn step(
     at: At,
 ) -> Stepped
     requires { ⌜ Named (now ports) (now tasks) (now drivers) ⌝ }
-    ensures { λ r. ⌜ ((T : Tables) → T .ports ≡ now (ports .entry) → T .tasks ≡ now (tasks .entry) → T .taskPorts ≡ now («task_ports» .entry) → T .drivers ≡ now (drivers .entry) → T .copies ≡ now (copies .entry) → r ≡ stepAt (programOf T) (now (readings .entry)) (now (times .entry)) (instructions (now (code .entry))) at) ⌝ }
+    ensures { λ r. ⌜ ((T : Tables) → T .ports ≡ now (ports .entry) → T .tasks ≡ now (tasks .entry)
+        → T .taskPorts ≡ now («task_ports» .entry) → T .drivers ≡ now (drivers .entry) → T .copies ≡ now (copies .entry)
+        → r ≡ stepAt (programOf T) (now (readings .entry)) (now (times .entry)) (instructions (now (code .entry))) at) ⌝ }
 {
     let count = code.len() / Program::WORDS;
     if count <= at.address {

@@ -43,7 +43,9 @@ pub fn run(
     s: State,
 ) -> Advanced
     requires { ⌜ Named (now ports) (now tasks) (now drivers) ⌝ }
-    ensures { λ r. ⌜ ((T : Tables) → T .ports ≡ now (ports .entry) → T .tasks ≡ now (tasks .entry) → T .taskPorts ≡ now («task_ports» .entry) → T .drivers ≡ now (drivers .entry) → T .copies ≡ now (copies .entry) → r ≡ answer s (runInstant (programOf T) (now (readings .entry)) (now (times .entry)) (instructions (now (code .entry))) s)) ⌝ }
+    ensures { λ r. ⌜ ((T : Tables) → T .ports ≡ now (ports .entry) → T .tasks ≡ now (tasks .entry)
+        → T .taskPorts ≡ now («task_ports» .entry) → T .drivers ≡ now (drivers .entry) → T .copies ≡ now (copies .entry)
+        → r ≡ answer s (runInstant (programOf T) (now (readings .entry)) (now (times .entry)) (instructions (now (code .entry))) s)) ⌝ }
 {
     let count = code.len() / Program::WORDS;
     let mut at = At {

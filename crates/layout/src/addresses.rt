@@ -35,7 +35,8 @@ fn one_more(
     requires { ⌜ sensors ≤ maxPorts ⌝ }
     requires { ⌜ m < maxModes ⌝ }
     requires { ⌜ before .length ≤ mostCode ⌝ }
-    ensures { λ r. ⌜ ((T : Tables) → T .invocations ≡ now (invocations .entry) → T .updates ≡ now (updates .entry) → T .switches ≡ now (switches .entry) → r ≡ laidMore T sensors m before) ⌝ }
+    ensures { λ r. ⌜ ((T : Tables) → T .invocations ≡ now (invocations .entry) → T .updates ≡ now (updates .entry)
+        → T .switches ≡ now (switches .entry) → r ≡ laidMore T sensors m before) ⌝ }
 {
     let own = Mode::of(m);
     let u = multiples::units(invocations, updates, switches, own);
@@ -61,8 +62,11 @@ pub fn lay_out(
     requires { ⌜ Few (now invocations) (now updates) (now switches) ⌝ }
     requires { ⌜ rowsIn modeWidth (now modes) ≤ maxModes ⌝ }
     requires { ⌜ sensors ≤ maxPorts ⌝ }
-    ensures all { λ r. ⌜ ((T : Tables) → T .modes ≡ now (modes .entry) → T .invocations ≡ now (invocations .entry) → T .updates ≡ now (updates .entry) → T .switches ≡ now (switches .entry) → r ≡ laidModes T sensors (modeCount T)) ⌝ }
-    ensures laid { λ r. ⌜ ((T : Tables) → T .modes ≡ now (modes .entry) → T .invocations ≡ now (invocations .entry) → T .updates ≡ now (updates .entry) → T .switches ≡ now (switches .entry) → sensors ≡ length (programOf T .sensors) → LaidOut T r) ⌝ }
+    ensures all { λ r. ⌜ ((T : Tables) → T .modes ≡ now (modes .entry) → T .invocations ≡ now (invocations .entry)
+        → T .updates ≡ now (updates .entry) → T .switches ≡ now (switches .entry) → r ≡ laidModes T sensors (modeCount T)) ⌝ }
+    ensures laid { λ r. ⌜ ((T : Tables) → T .modes ≡ now (modes .entry) → T .invocations ≡ now (invocations .entry)
+        → T .updates ≡ now (updates .entry) → T .switches ≡ now (switches .entry) → sensors ≡ length (programOf T .sensors)
+        → LaidOut T r) ⌝ }
     ensures small { λ r. ⌜ Small r ⌝ }
 {
     let n = modes.len() / mode::WIDTH;

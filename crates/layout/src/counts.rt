@@ -123,7 +123,8 @@ pub fn mode_size(
     requires { ⌜ Few (now invocations) (now updates) (now switches) ⌝ }
     requires { ⌜ sensors ≤ maxPorts ⌝ }
     requires { ⌜ u ≤ suc maxUnits ⌝ }
-    ensures { λ r. ⌜ r ≡ sum (λ k. sizeOf (countsIn (now (invocations .entry)) (now (updates .entry)) (now (switches .entry)) sensors (m .0) u k)) u ⌝ }
+    ensures { λ r. ⌜ r ≡ sum (λ k. sizeOf (countsIn (now (invocations .entry)) (now (updates .entry)) (now (switches .entry)) sensors
+        (m .0) u k)) u ⌝ }
 {
     let mut total = 0;
     let mut k = 0;

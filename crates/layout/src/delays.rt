@@ -61,8 +61,10 @@ fn mark_units(
     requires { ⌜ u ≤ suc maxUnits ⌝ }
     requires { ⌜ ticks ≤ greatestWord ⌝ }
     requires { ⌜ at + mostMode ≤ mostCode ⌝ }
-    ensures marks { λ _. ⌜ now (delays .exit) ≡ unitsMarked (countsIn (now (invocations .entry)) (now (updates .entry)) (now (switches .entry)) sensors (m .0) u) ticks at u (now (delays .entry)) ⌝ }
-    ensures end { λ r. ⌜ r ≡ at + sum (λ k. sizeOf (countsIn (now (invocations .entry)) (now (updates .entry)) (now (switches .entry)) sensors (m .0) u k)) u ⌝ }
+    ensures marks { λ _. ⌜ now (delays .exit) ≡ unitsMarked (countsIn (now (invocations .entry)) (now (updates .entry))
+        (now (switches .entry)) sensors (m .0) u) ticks at u (now (delays .entry)) ⌝ }
+    ensures end { λ r. ⌜ r ≡ at + sum (λ k. sizeOf (countsIn (now (invocations .entry)) (now (updates .entry))
+        (now (switches .entry)) sensors (m .0) u k)) u ⌝ }
 {
     let mut next = at;
     let mut k = 0;
@@ -89,8 +91,11 @@ fn mark_mode(
     requires { ⌜ sensors ≤ maxPorts ⌝ }
     requires { ⌜ m < maxModes ⌝ }
     requires { ⌜ at + mostMode ≤ mostCode ⌝ }
-    ensures marks { λ _. ⌜ ((T : Tables) → T .modes ≡ now (modes .entry) → T .invocations ≡ now (invocations .entry) → T .updates ≡ now (updates .entry) → T .switches ≡ now (switches .entry) → now (delays .exit) ≡ unitsMarked (unitCounts T sensors m) (ticksIn T m) at (units T m) (now (delays .entry))) ⌝ }
-    ensures end { λ r. ⌜ ((T : Tables) → T .invocations ≡ now (invocations .entry) → T .updates ≡ now (updates .entry) → T .switches ≡ now (switches .entry) → r ≡ at + sizeIn T sensors m) ⌝ }
+    ensures marks { λ _. ⌜ ((T : Tables) → T .modes ≡ now (modes .entry) → T .invocations ≡ now (invocations .entry)
+        → T .updates ≡ now (updates .entry) → T .switches ≡ now (switches .entry)
+        → now (delays .exit) ≡ unitsMarked (unitCounts T sensors m) (ticksIn T m) at (units T m) (now (delays .entry))) ⌝ }
+    ensures end { λ r. ⌜ ((T : Tables) → T .invocations ≡ now (invocations .entry) → T .updates ≡ now (updates .entry)
+        → T .switches ≡ now (switches .entry) → r ≡ at + sizeIn T sensors m) ⌝ }
 {
     let own = Mode::of(m);
     let u = multiples::units(invocations, updates, switches, own);
@@ -122,8 +127,12 @@ pub fn fill(
     requires { ⌜ Few (now invocations) (now updates) (now switches) ⌝ }
     requires { ⌜ rowsIn modeWidth (now modes) ≤ maxModes ⌝ }
     requires { ⌜ rowsIn portWidth (now ports) ≤ maxPorts ⌝ }
-    ensures counted { λ _. ⌜ ((T : Tables) → T .ports ≡ now (ports .entry) → T .modes ≡ now (modes .entry) → T .invocations ≡ now (invocations .entry) → T .updates ≡ now (updates .entry) → T .switches ≡ now (switches .entry) → now (delays .exit) ≡ modesMarked T (length (sensorRows (T .ports) (λ p. p))) (modeCount T) (now (delays .entry))) ⌝ }
-    ensures listed { λ _. ⌜ ((T : Tables) → T .ports ≡ now (ports .entry) → T .modes ≡ now (modes .entry) → T .invocations ≡ now (invocations .entry) → T .updates ≡ now (updates .entry) → T .switches ≡ now (switches .entry) → programVerdict T ≡ 0 → now (delays .exit) ≡ marked (listingOf T) 0 (now (delays .entry))) ⌝ }
+    ensures counted { λ _. ⌜ ((T : Tables) → T .ports ≡ now (ports .entry) → T .modes ≡ now (modes .entry)
+        → T .invocations ≡ now (invocations .entry) → T .updates ≡ now (updates .entry) → T .switches ≡ now (switches .entry)
+        → now (delays .exit) ≡ modesMarked T (length (sensorRows (T .ports) (λ p. p))) (modeCount T) (now (delays .entry))) ⌝ }
+    ensures listed { λ _. ⌜ ((T : Tables) → T .ports ≡ now (ports .entry) → T .modes ≡ now (modes .entry)
+        → T .invocations ≡ now (invocations .entry) → T .updates ≡ now (updates .entry) → T .switches ≡ now (switches .entry)
+        → programVerdict T ≡ 0 → now (delays .exit) ≡ marked (listingOf T) 0 (now (delays .entry))) ⌝ }
 {
     let sensors = counts::sensors(ports);
     let n = modes.len() / mode::WIDTH;

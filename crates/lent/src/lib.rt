@@ -24,7 +24,9 @@ fn code_long(
     requires { ⌜ Few (now invocations) (now updates) (now switches) ⌝ }
     requires { ⌜ rowsIn modeWidth (now modes) ≤ maxModes ⌝ }
     requires { ⌜ rowsIn portWidth (now ports) ≤ maxPorts ⌝ }
-    ensures { λ r. ⌜ ((T : Tables) → T .ports ≡ now (ports .entry) → T .modes ≡ now (modes .entry) → T .invocations ≡ now (invocations .entry) → T .updates ≡ now (updates .entry) → T .switches ≡ now (switches .entry) → r ≡ codeLong T) ⌝ }
+    ensures { λ r. ⌜ ((T : Tables) → T .ports ≡ now (ports .entry) → T .modes ≡ now (modes .entry)
+        → T .invocations ≡ now (invocations .entry) → T .updates ≡ now (updates .entry) → T .switches ≡ now (switches .entry)
+        → r ≡ codeLong T) ⌝ }
 {
     let sensors = counts::sensors(ports);
     let laid = addresses::lay_out(modes, invocations, updates, switches, sensors);
@@ -45,8 +47,11 @@ pub fn lent_verdict(
     switches: &[i32],
     start: i32,
 ) -> usize
-    requires { ⌜ shapeBad (tables (now ports) (now tasks) (now «task_ports») (now drivers) (now copies) (now modes) (now «mode_ports») (now invocations) (now updates) (now switches) start) ≡ false ⌝ }
-    ensures { λ r. ⌜ r ≡ lentVerdict (tables (now (ports .entry)) (now (tasks .entry)) (now («task_ports» .entry)) (now (drivers .entry)) (now (copies .entry)) (now (modes .entry)) (now («mode_ports» .entry)) (now (invocations .entry)) (now (updates .entry)) (now (switches .entry)) start) ⌝ }
+    requires { ⌜ shapeBad (tables (now ports) (now tasks) (now «task_ports») (now drivers) (now copies) (now modes) (now «mode_ports»)
+        (now invocations) (now updates) (now switches) start) ≡ false ⌝ }
+    ensures { λ r. ⌜ r ≡ lentVerdict (tables (now (ports .entry)) (now (tasks .entry)) (now («task_ports» .entry))
+        (now (drivers .entry)) (now (copies .entry)) (now (modes .entry)) (now («mode_ports» .entry)) (now (invocations .entry))
+        (now (updates .entry)) (now (switches .entry)) start) ⌝ }
 {
     let number = verdict::table_verdict(
         ports,

@@ -22,7 +22,8 @@ fn destination_no_input(
     d: Driver,
     c: usize,
 ) -> bool
-    ensures { λ r. ⌜ ((T : Tables) → T .ports ≡ now (ports .entry) → T .taskPorts ≡ now («task_ports» .entry) → T .copies ≡ now (copies .entry) → r ≡ destinationWith T (λ p. not (isInput T (t .0) p)) (d .0) c) ⌝ }
+    ensures { λ r. ⌜ ((T : Tables) → T .ports ≡ now (ports .entry) → T .taskPorts ≡ now («task_ports» .entry)
+        → T .copies ≡ now (copies .entry) → r ≡ destinationWith T (λ p. not (isInput T (t .0) p)) (d .0) c) ⌝ }
 {
     if own_copy(copies, d, c) {
         let p = table::port(copies, copy::WIDTH, c, copy::DESTINATION);
@@ -39,7 +40,8 @@ pub fn some_destination_no_input(
     t: Task,
     d: Driver,
 ) -> bool
-    ensures { λ r. ⌜ ((T : Tables) → T .ports ≡ now (ports .entry) → T .taskPorts ≡ now («task_ports» .entry) → T .copies ≡ now (copies .entry) → r ≡ someDestination T (λ p. not (isInput T (t .0) p)) (d .0)) ⌝ }
+    ensures { λ r. ⌜ ((T : Tables) → T .ports ≡ now (ports .entry) → T .taskPorts ≡ now («task_ports» .entry)
+        → T .copies ≡ now (copies .entry) → r ≡ someDestination T (λ p. not (isInput T (t .0) p)) (d .0)) ⌝ }
 {
     let n = copies.len() / copy::WIDTH;
     let mut c = 0;
@@ -54,7 +56,8 @@ pub fn some_destination_no_input(
 
 // Row c is a copy of driver d to a port that is no actuator.
 fn destination_no_actuator(ports: &[i32], copies: &[i32], d: Driver, c: usize) -> bool
-    ensures { λ r. ⌜ ((T : Tables) → T .ports ≡ now (ports .entry) → T .copies ≡ now (copies .entry) → r ≡ destinationWith T (λ p. not (isKind T actuator p)) (d .0) c) ⌝ }
+    ensures { λ r. ⌜ ((T : Tables) → T .ports ≡ now (ports .entry) → T .copies ≡ now (copies .entry)
+        → r ≡ destinationWith T (λ p. not (isKind T actuator p)) (d .0) c) ⌝ }
 {
     if own_copy(copies, d, c) {
         let p = table::port(copies, copy::WIDTH, c, copy::DESTINATION);
@@ -65,7 +68,8 @@ fn destination_no_actuator(ports: &[i32], copies: &[i32], d: Driver, c: usize) -
 
 // Some copy of driver d is.
 pub fn some_destination_no_actuator(ports: &[i32], copies: &[i32], d: Driver) -> bool
-    ensures { λ r. ⌜ ((T : Tables) → T .ports ≡ now (ports .entry) → T .copies ≡ now (copies .entry) → r ≡ someDestination T (λ p. not (isKind T actuator p)) (d .0)) ⌝ }
+    ensures { λ r. ⌜ ((T : Tables) → T .ports ≡ now (ports .entry) → T .copies ≡ now (copies .entry)
+        → r ≡ someDestination T (λ p. not (isKind T actuator p)) (d .0)) ⌝ }
 {
     let n = copies.len() / copy::WIDTH;
     let mut c = 0;
@@ -112,7 +116,8 @@ fn destination_no_mode_port(
     d: Driver,
     c: usize,
 ) -> bool
-    ensures { λ r. ⌜ ((T : Tables) → T .copies ≡ now (copies .entry) → T .modePorts ≡ now («mode_ports» .entry) → r ≡ destinationWith T (λ p. not (isModePort T (m .0) p)) (d .0) c) ⌝ }
+    ensures { λ r. ⌜ ((T : Tables) → T .copies ≡ now (copies .entry) → T .modePorts ≡ now («mode_ports» .entry)
+        → r ≡ destinationWith T (λ p. not (isModePort T (m .0) p)) (d .0) c) ⌝ }
 {
     if own_copy(copies, d, c) {
         let p = table::port(copies, copy::WIDTH, c, copy::DESTINATION);
@@ -123,7 +128,8 @@ fn destination_no_mode_port(
 
 // Some copy of driver d is.
 pub fn some_destination_no_mode_port(copies: &[i32], mode_ports: &[i32], m: Mode, d: Driver) -> bool
-    ensures { λ r. ⌜ ((T : Tables) → T .copies ≡ now (copies .entry) → T .modePorts ≡ now («mode_ports» .entry) → r ≡ someDestination T (λ p. not (isModePort T (m .0) p)) (d .0)) ⌝ }
+    ensures { λ r. ⌜ ((T : Tables) → T .copies ≡ now (copies .entry) → T .modePorts ≡ now («mode_ports» .entry)
+        → r ≡ someDestination T (λ p. not (isModePort T (m .0) p)) (d .0)) ⌝ }
 {
     let n = copies.len() / copy::WIDTH;
     let mut c = 0;

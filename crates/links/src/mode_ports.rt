@@ -12,7 +12,8 @@ use program::members;
 
 // Row k is a port of mode m that driver d does not set.
 fn port_no_destination(copies: &[i32], mode_ports: &[i32], d: Driver, m: Mode, k: usize) -> bool
-    ensures { λ r. ⌜ ((T : Tables) → T .copies ≡ now (copies .entry) → T .modePorts ≡ now («mode_ports» .entry) → r ≡ portWith T (λ p. not (isDestination T (d .0) p)) (m .0) k) ⌝ }
+    ensures { λ r. ⌜ ((T : Tables) → T .copies ≡ now (copies .entry) → T .modePorts ≡ now («mode_ports» .entry)
+        → r ≡ portWith T (λ p. not (isDestination T (d .0) p)) (m .0) k) ⌝ }
 {
     let owner = table::mode(mode_ports, mode_port::WIDTH, k, mode_port::MODE);
     if owner.index() == m.index() {
@@ -24,7 +25,8 @@ fn port_no_destination(copies: &[i32], mode_ports: &[i32], d: Driver, m: Mode, k
 
 // Some port of mode m is not set by driver d.
 pub fn some_port_no_destination(copies: &[i32], mode_ports: &[i32], d: Driver, m: Mode) -> bool
-    ensures { λ r. ⌜ ((T : Tables) → T .copies ≡ now (copies .entry) → T .modePorts ≡ now («mode_ports» .entry) → r ≡ somePort T (λ p. not (isDestination T (d .0) p)) (m .0)) ⌝ }
+    ensures { λ r. ⌜ ((T : Tables) → T .copies ≡ now (copies .entry) → T .modePorts ≡ now («mode_ports» .entry)
+        → r ≡ somePort T (λ p. not (isDestination T (d .0) p)) (m .0)) ⌝ }
 {
     let n = mode_ports.len() / mode_port::WIDTH;
     let mut k = 0;

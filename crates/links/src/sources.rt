@@ -18,7 +18,8 @@ use program::members;
 
 // Port p is neither a port of mode m nor a sensor.
 fn unreadable(ports: &[i32], mode_ports: &[i32], m: Mode, p: Port) -> bool
-    ensures { λ r. ⌜ ((T : Tables) → T .ports ≡ now (ports .entry) → T .modePorts ≡ now («mode_ports» .entry) → r ≡ unreadable T (m .0) (p .0)) ⌝ }
+    ensures { λ r. ⌜ ((T : Tables) → T .ports ≡ now (ports .entry) → T .modePorts ≡ now («mode_ports» .entry)
+        → r ≡ unreadable T (m .0) (p .0)) ⌝ }
 {
     if members::is_kind(ports, port::SENSOR, p) {
         return false;
@@ -35,7 +36,8 @@ fn source_unreadable(
     d: Driver,
     c: usize,
 ) -> bool
-    ensures { λ r. ⌜ ((T : Tables) → T .ports ≡ now (ports .entry) → T .copies ≡ now (copies .entry) → T .modePorts ≡ now («mode_ports» .entry) → r ≡ sourceWith T (unreadable T (m .0)) (d .0) c) ⌝ }
+    ensures { λ r. ⌜ ((T : Tables) → T .ports ≡ now (ports .entry) → T .copies ≡ now (copies .entry)
+        → T .modePorts ≡ now («mode_ports» .entry) → r ≡ sourceWith T (unreadable T (m .0)) (d .0) c) ⌝ }
 {
     if own_copy(copies, d, c) {
         let p = table::port(copies, copy::WIDTH, c, copy::SOURCE);
@@ -52,7 +54,8 @@ fn some_copy_unreadable(
     m: Mode,
     d: Driver,
 ) -> bool
-    ensures { λ r. ⌜ ((T : Tables) → T .ports ≡ now (ports .entry) → T .copies ≡ now (copies .entry) → T .modePorts ≡ now («mode_ports» .entry) → r ≡ any (sourceWith T (unreadable T (m .0)) (d .0)) (copyCount T)) ⌝ }
+    ensures { λ r. ⌜ ((T : Tables) → T .ports ≡ now (ports .entry) → T .copies ≡ now (copies .entry)
+        → T .modePorts ≡ now («mode_ports» .entry) → r ≡ any (sourceWith T (unreadable T (m .0)) (d .0)) (copyCount T)) ⌝ }
 {
     let n = copies.len() / copy::WIDTH;
     let mut c = 0;
@@ -74,7 +77,9 @@ pub fn some_source_unreadable(
     m: Mode,
     d: Driver,
 ) -> bool
-    ensures { λ r. ⌜ ((T : Tables) → T .ports ≡ now (ports .entry) → T .drivers ≡ now (drivers .entry) → T .copies ≡ now (copies .entry) → T .modePorts ≡ now («mode_ports» .entry) → r ≡ someSource T (unreadable T (m .0)) (d .0)) ⌝ }
+    ensures { λ r. ⌜ ((T : Tables) → T .ports ≡ now (ports .entry) → T .drivers ≡ now (drivers .entry)
+        → T .copies ≡ now (copies .entry) → T .modePorts ≡ now («mode_ports» .entry)
+        → r ≡ someSource T (unreadable T (m .0)) (d .0)) ⌝ }
 {
     if some_copy_unreadable(ports, copies, mode_ports, m, d) {
         return true;
@@ -88,7 +93,8 @@ pub fn some_source_unreadable(
 
 // Row c is a copy of driver d from a port that is none of mode m.
 fn source_no_mode_port(copies: &[i32], mode_ports: &[i32], m: Mode, d: Driver, c: usize) -> bool
-    ensures { λ r. ⌜ ((T : Tables) → T .copies ≡ now (copies .entry) → T .modePorts ≡ now («mode_ports» .entry) → r ≡ sourceWith T (λ p. not (isModePort T (m .0) p)) (d .0) c) ⌝ }
+    ensures { λ r. ⌜ ((T : Tables) → T .copies ≡ now (copies .entry) → T .modePorts ≡ now («mode_ports» .entry)
+        → r ≡ sourceWith T (λ p. not (isModePort T (m .0) p)) (d .0) c) ⌝ }
 {
     if own_copy(copies, d, c) {
         let p = table::port(copies, copy::WIDTH, c, copy::SOURCE);
@@ -99,7 +105,8 @@ fn source_no_mode_port(copies: &[i32], mode_ports: &[i32], m: Mode, d: Driver, c
 
 // Some copy of driver d is.
 fn some_copy_no_mode_port(copies: &[i32], mode_ports: &[i32], m: Mode, d: Driver) -> bool
-    ensures { λ r. ⌜ ((T : Tables) → T .copies ≡ now (copies .entry) → T .modePorts ≡ now («mode_ports» .entry) → r ≡ any (sourceWith T (λ p. not (isModePort T (m .0) p)) (d .0)) (copyCount T)) ⌝ }
+    ensures { λ r. ⌜ ((T : Tables) → T .copies ≡ now (copies .entry) → T .modePorts ≡ now («mode_ports» .entry)
+        → r ≡ any (sourceWith T (λ p. not (isModePort T (m .0) p)) (d .0)) (copyCount T)) ⌝ }
 {
     let n = copies.len() / copy::WIDTH;
     let mut c = 0;
@@ -120,7 +127,8 @@ pub fn some_source_no_mode_port(
     m: Mode,
     d: Driver,
 ) -> bool
-    ensures { λ r. ⌜ ((T : Tables) → T .drivers ≡ now (drivers .entry) → T .copies ≡ now (copies .entry) → T .modePorts ≡ now («mode_ports» .entry) → r ≡ someSource T (λ p. not (isModePort T (m .0) p)) (d .0)) ⌝ }
+    ensures { λ r. ⌜ ((T : Tables) → T .drivers ≡ now (drivers .entry) → T .copies ≡ now (copies .entry)
+        → T .modePorts ≡ now («mode_ports» .entry) → r ≡ someSource T (λ p. not (isModePort T (m .0) p)) (d .0)) ⌝ }
 {
     if some_copy_no_mode_port(copies, mode_ports, m, d) {
         return true;

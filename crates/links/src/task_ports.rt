@@ -14,7 +14,8 @@ use program::members;
 
 // Row k of the task ports is one of task t, of this kind.
 fn own_port(ports: &[i32], task_ports: &[i32], kind: usize, t: Task, k: usize) -> bool
-    ensures { λ r. ⌜ ((T : Tables) → T .ports ≡ now (ports .entry) → T .taskPorts ≡ now («task_ports» .entry) → r ≡ ownPort T kind (t .0) k) ⌝ }
+    ensures { λ r. ⌜ ((T : Tables) → T .ports ≡ now (ports .entry) → T .taskPorts ≡ now («task_ports» .entry)
+        → r ≡ ownPort T kind (t .0) k) ⌝ }
 {
     let owner = table::task(task_ports, task_port::WIDTH, k, task_port::TASK);
     let p = table::port(task_ports, task_port::WIDTH, k, task_port::PORT);
@@ -30,7 +31,8 @@ fn output_no_mode_port(
     t: Task,
     k: usize,
 ) -> bool
-    ensures { λ r. ⌜ ((T : Tables) → T .ports ≡ now (ports .entry) → T .taskPorts ≡ now («task_ports» .entry) → T .modePorts ≡ now («mode_ports» .entry) → r ≡ outputWith T (λ p. not (isModePort T (m .0) p)) (t .0) k) ⌝ }
+    ensures { λ r. ⌜ ((T : Tables) → T .ports ≡ now (ports .entry) → T .taskPorts ≡ now («task_ports» .entry)
+        → T .modePorts ≡ now («mode_ports» .entry) → r ≡ outputWith T (λ p. not (isModePort T (m .0) p)) (t .0) k) ⌝ }
 {
     if own_port(ports, task_ports, port::OUTPUT, t, k) {
         let p = table::port(task_ports, task_port::WIDTH, k, task_port::PORT);
@@ -47,7 +49,8 @@ pub fn some_output_no_mode_port(
     m: Mode,
     t: Task,
 ) -> bool
-    ensures { λ r. ⌜ ((T : Tables) → T .ports ≡ now (ports .entry) → T .taskPorts ≡ now («task_ports» .entry) → T .modePorts ≡ now («mode_ports» .entry) → r ≡ someOutput T (λ p. not (isModePort T (m .0) p)) (t .0)) ⌝ }
+    ensures { λ r. ⌜ ((T : Tables) → T .ports ≡ now (ports .entry) → T .taskPorts ≡ now («task_ports» .entry)
+        → T .modePorts ≡ now («mode_ports» .entry) → r ≡ someOutput T (λ p. not (isModePort T (m .0) p)) (t .0)) ⌝ }
 {
     let n = task_ports.len() / task_port::WIDTH;
     let mut k = 0;
@@ -62,7 +65,8 @@ pub fn some_output_no_mode_port(
 
 // Row k is an output of task t, and one of task u.
 fn output_shared(ports: &[i32], task_ports: &[i32], u: Task, t: Task, k: usize) -> bool
-    ensures { λ r. ⌜ ((T : Tables) → T .ports ≡ now (ports .entry) → T .taskPorts ≡ now («task_ports» .entry) → r ≡ outputWith T (isOutput T (u .0)) (t .0) k) ⌝ }
+    ensures { λ r. ⌜ ((T : Tables) → T .ports ≡ now (ports .entry) → T .taskPorts ≡ now («task_ports» .entry)
+        → r ≡ outputWith T (isOutput T (u .0)) (t .0) k) ⌝ }
 {
     if own_port(ports, task_ports, port::OUTPUT, t, k) {
         let p = table::port(task_ports, task_port::WIDTH, k, task_port::PORT);
@@ -73,7 +77,8 @@ fn output_shared(ports: &[i32], task_ports: &[i32], u: Task, t: Task, k: usize) 
 
 // Tasks t and u share an output.
 pub fn some_output_shared(ports: &[i32], task_ports: &[i32], u: Task, t: Task) -> bool
-    ensures { λ r. ⌜ ((T : Tables) → T .ports ≡ now (ports .entry) → T .taskPorts ≡ now («task_ports» .entry) → r ≡ someOutput T (isOutput T (u .0)) (t .0)) ⌝ }
+    ensures { λ r. ⌜ ((T : Tables) → T .ports ≡ now (ports .entry) → T .taskPorts ≡ now («task_ports» .entry)
+        → r ≡ someOutput T (isOutput T (u .0)) (t .0)) ⌝ }
 {
     let n = task_ports.len() / task_port::WIDTH;
     let mut k = 0;
@@ -95,7 +100,8 @@ fn input_no_destination(
     t: Task,
     k: usize,
 ) -> bool
-    ensures { λ r. ⌜ ((T : Tables) → T .ports ≡ now (ports .entry) → T .taskPorts ≡ now («task_ports» .entry) → T .copies ≡ now (copies .entry) → r ≡ inputWith T (λ p. not (isDestination T (d .0) p)) (t .0) k) ⌝ }
+    ensures { λ r. ⌜ ((T : Tables) → T .ports ≡ now (ports .entry) → T .taskPorts ≡ now («task_ports» .entry)
+        → T .copies ≡ now (copies .entry) → r ≡ inputWith T (λ p. not (isDestination T (d .0) p)) (t .0) k) ⌝ }
 {
     if own_port(ports, task_ports, port::INPUT, t, k) {
         let p = table::port(task_ports, task_port::WIDTH, k, task_port::PORT);
@@ -112,7 +118,8 @@ pub fn some_input_no_destination(
     d: Driver,
     t: Task,
 ) -> bool
-    ensures { λ r. ⌜ ((T : Tables) → T .ports ≡ now (ports .entry) → T .taskPorts ≡ now («task_ports» .entry) → T .copies ≡ now (copies .entry) → r ≡ someInput T (λ p. not (isDestination T (d .0) p)) (t .0)) ⌝ }
+    ensures { λ r. ⌜ ((T : Tables) → T .ports ≡ now (ports .entry) → T .taskPorts ≡ now («task_ports» .entry)
+        → T .copies ≡ now (copies .entry) → r ≡ someInput T (λ p. not (isDestination T (d .0) p)) (t .0)) ⌝ }
 {
     let n = task_ports.len() / task_port::WIDTH;
     let mut k = 0;

@@ -80,7 +80,8 @@ fn outputs_after(
     s: State,
     t: Task,
 ) -> [i32; Program::PORTS]
-    ensures { λ r. ⌜ ((T : Tables) → T .ports ≡ now (ports .entry) → T .taskPorts ≡ now («task_ports» .entry) → r ≡ outputsBy T (now (results .entry)) s (t .0)) ⌝ }
+    ensures { λ r. ⌜ ((T : Tables) → T .ports ≡ now (ports .entry) → T .taskPorts ≡ now («task_ports» .entry)
+        → r ≡ outputsBy T (now (results .entry)) s (t .0)) ⌝ }
 {
     let left = s.left;
     let outputs = s.outputs;
@@ -122,7 +123,8 @@ pub fn tick_all(
 ) -> Advanced
     requires { ⌜ s .current ≤ greatestWord ⌝ }
     requires { ⌜ s .elapsed ≤ maxElapsed ⌝ }
-    ensures { λ r. ⌜ ((T : Tables) → T .ports ≡ now (ports .entry) → T .taskPorts ≡ now («task_ports» .entry) → Rows T (now (rows .entry)) → r ≡ answer s (tickAll (programOf T) (now (rows .entry)) (now (results .entry)) s)) ⌝ }
+    ensures { λ r. ⌜ ((T : Tables) → T .ports ≡ now (ports .entry) → T .taskPorts ≡ now («task_ports» .entry)
+        → Rows T (now (rows .entry)) → r ≡ answer s (tickAll (programOf T) (now (rows .entry)) (now (results .entry)) s)) ⌝ }
 {
     let all = turns(rows, s);
     let running = all.running;

@@ -21,7 +21,8 @@ use program::members;
 
 // Row i of the copies, if it is one of driver d: its source among the old values is put into the new.
 fn copy_row(copies: &[i32], d: Driver, old: &[i32], i: usize, new: &mut [i32])
-    ensures { λ _. ⌜ ((T : Tables) → T .copies ≡ now (copies .entry) → now (new .exit) ≡ putRow (eqb (copyDriver T i) (d .0)) (copyPut T (now (old .entry)) i) (now (new .entry))) ⌝ }
+    ensures { λ _. ⌜ ((T : Tables) → T .copies ≡ now (copies .entry)
+        → now (new .exit) ≡ putRow (eqb (copyDriver T i) (d .0)) (copyPut T (now (old .entry)) i) (now (new .entry))) ⌝ }
 {
     let own = table::driver(copies, copy::WIDTH, i, copy::DRIVER);
     if own.index() == d.index() {
@@ -52,7 +53,8 @@ pub fn driven(
     d: Driver,
     values: [i32; Program::PORTS],
 ) -> [i32; Program::PORTS]
-    ensures { λ r. ⌜ ((T : Tables) → T .drivers ≡ now (drivers .entry) → T .copies ≡ now (copies .entry) → r ≡ drive (driverRow T (d .0)) values) ⌝ }
+    ensures { λ r. ⌜ ((T : Tables) → T .drivers ≡ now (drivers .entry) → T .copies ≡ now (copies .entry)
+        → r ≡ drive (driverRow T (d .0)) values) ⌝ }
 {
     if guard::guard_holds(drivers, d, &values) {
         return copied(copies, d, values);
@@ -69,7 +71,8 @@ fn output_row(
     k: usize,
     values: &mut [i32],
 )
-    ensures { λ _. ⌜ ((T : Tables) → T .ports ≡ now (ports .entry) → T .taskPorts ≡ now («task_ports» .entry) → now (values .exit) ≡ putRow (isOutputRow T (t .0) k) (outputPut T (now (lent .entry)) k) (now (values .entry))) ⌝ }
+    ensures { λ _. ⌜ ((T : Tables) → T .ports ≡ now (ports .entry) → T .taskPorts ≡ now («task_ports» .entry)
+        → now (values .exit) ≡ putRow (isOutputRow T (t .0) k) (outputPut T (now (lent .entry)) k) (now (values .entry))) ⌝ }
 {
     let own = table::task(task_ports, task_port::WIDTH, k, task_port::TASK);
     let p = table::port(task_ports, task_port::WIDTH, k, task_port::PORT);
@@ -86,7 +89,8 @@ pub fn outputs_taken(
     lent: &[i32],
     values: [i32; Program::PORTS],
 ) -> [i32; Program::PORTS]
-    ensures { λ r. ⌜ ((T : Tables) → T .ports ≡ now (ports .entry) → T .taskPorts ≡ now («task_ports» .entry) → r ≡ puts (takes (valueOf (now (lent .entry))) (portsOf T output (t .0))) values) ⌝ }
+    ensures { λ r. ⌜ ((T : Tables) → T .ports ≡ now (ports .entry) → T .taskPorts ≡ now («task_ports» .entry)
+        → r ≡ puts (takes (valueOf (now (lent .entry))) (portsOf T output (t .0))) values) ⌝ }
 {
     let n = task_ports.len() / task_port::WIDTH;
     let mut next = values;

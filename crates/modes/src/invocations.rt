@@ -19,7 +19,8 @@ fn invocation_clash(
     i: usize,
     j: usize,
 ) -> bool
-    ensures { λ r. ⌜ ((T : Tables) → T .ports ≡ now (ports .entry) → T .taskPorts ≡ now («task_ports» .entry) → T .invocations ≡ now (invocations .entry) → r ≡ invocationClash T i j) ⌝ }
+    ensures { λ r. ⌜ ((T : Tables) → T .ports ≡ now (ports .entry) → T .taskPorts ≡ now («task_ports» .entry)
+        → T .invocations ≡ now (invocations .entry) → r ≡ invocationClash T i j) ⌝ }
 {
     if members::one_mode(invocations, invocation::WIDTH, i, j) {
         let t = table::task(invocations, invocation::WIDTH, i, invocation::TASK);
@@ -31,7 +32,8 @@ fn invocation_clash(
 
 // A row before row i clashes with it.
 fn has_invocation_clash(ports: &[i32], task_ports: &[i32], invocations: &[i32], i: usize) -> bool
-    ensures { λ r. ⌜ ((T : Tables) → T .ports ≡ now (ports .entry) → T .taskPorts ≡ now («task_ports» .entry) → T .invocations ≡ now (invocations .entry) → r ≡ any (invocationClash T i) i) ⌝ }
+    ensures { λ r. ⌜ ((T : Tables) → T .ports ≡ now (ports .entry) → T .taskPorts ≡ now («task_ports» .entry)
+        → T .invocations ≡ now (invocations .entry) → r ≡ any (invocationClash T i) i) ⌝ }
 {
     let mut j = 0;
     while j < i {
@@ -53,7 +55,9 @@ fn invocation_wrong(
     invocations: &[i32],
     i: usize,
 ) -> bool
-    ensures { λ r. ⌜ ((T : Tables) → T .ports ≡ now (ports .entry) → T .taskPorts ≡ now («task_ports» .entry) → T .drivers ≡ now (drivers .entry) → T .copies ≡ now (copies .entry) → T .modePorts ≡ now («mode_ports» .entry) → T .invocations ≡ now (invocations .entry) → r ≡ invocationWrong T i) ⌝ }
+    ensures { λ r. ⌜ ((T : Tables) → T .ports ≡ now (ports .entry) → T .taskPorts ≡ now («task_ports» .entry)
+        → T .drivers ≡ now (drivers .entry) → T .copies ≡ now (copies .entry) → T .modePorts ≡ now («mode_ports» .entry)
+        → T .invocations ≡ now (invocations .entry) → r ≡ invocationWrong T i) ⌝ }
 {
     let m = table::mode(invocations, invocation::WIDTH, i, invocation::MODE);
     let t = table::task(invocations, invocation::WIDTH, i, invocation::TASK);
@@ -76,7 +80,9 @@ pub fn first_wrong_invocation(
     mode_ports: &[i32],
     invocations: &[i32],
 ) -> usize
-    ensures { λ r. ⌜ ((T : Tables) → T .ports ≡ now (ports .entry) → T .taskPorts ≡ now («task_ports» .entry) → T .drivers ≡ now (drivers .entry) → T .copies ≡ now (copies .entry) → T .modePorts ≡ now («mode_ports» .entry) → T .invocations ≡ now (invocations .entry) → r ≡ first (invocationWrong T) (invocationCount T)) ⌝ }
+    ensures { λ r. ⌜ ((T : Tables) → T .ports ≡ now (ports .entry) → T .taskPorts ≡ now («task_ports» .entry)
+        → T .drivers ≡ now (drivers .entry) → T .copies ≡ now (copies .entry) → T .modePorts ≡ now («mode_ports» .entry)
+        → T .invocations ≡ now (invocations .entry) → r ≡ first (invocationWrong T) (invocationCount T)) ⌝ }
 {
     let n = invocations.len() / invocation::WIDTH;
     let mut i = 0;

@@ -25,7 +25,8 @@ fn switch_clash(drivers: &[i32], switches: &[i32], i: usize, j: usize) -> bool
 
 // A row before row i clashes with it.
 fn has_switch_clash(drivers: &[i32], switches: &[i32], i: usize) -> bool
-    ensures { λ r. ⌜ ((T : Tables) → T .drivers ≡ now (drivers .entry) → T .switches ≡ now (switches .entry) → r ≡ any (switchClash T i) i) ⌝ }
+    ensures { λ r. ⌜ ((T : Tables) → T .drivers ≡ now (drivers .entry) → T .switches ≡ now (switches .entry)
+        → r ≡ any (switchClash T i) i) ⌝ }
 {
     let mut j = 0;
     while j < i {
@@ -46,7 +47,9 @@ fn switch_wrong(
     switches: &[i32],
     i: usize,
 ) -> bool
-    ensures { λ r. ⌜ ((T : Tables) → T .ports ≡ now (ports .entry) → T .drivers ≡ now (drivers .entry) → T .copies ≡ now (copies .entry) → T .modePorts ≡ now («mode_ports» .entry) → T .switches ≡ now (switches .entry) → r ≡ switchWrong T i) ⌝ }
+    ensures { λ r. ⌜ ((T : Tables) → T .ports ≡ now (ports .entry) → T .drivers ≡ now (drivers .entry)
+        → T .copies ≡ now (copies .entry) → T .modePorts ≡ now («mode_ports» .entry) → T .switches ≡ now (switches .entry)
+        → r ≡ switchWrong T i) ⌝ }
 {
     let m = table::mode(switches, switch::WIDTH, i, switch::MODE);
     let target = table::mode(switches, switch::WIDTH, i, switch::TARGET);
@@ -66,7 +69,9 @@ pub fn first_wrong_switch(
     mode_ports: &[i32],
     switches: &[i32],
 ) -> usize
-    ensures { λ r. ⌜ ((T : Tables) → T .ports ≡ now (ports .entry) → T .drivers ≡ now (drivers .entry) → T .copies ≡ now (copies .entry) → T .modePorts ≡ now («mode_ports» .entry) → T .switches ≡ now (switches .entry) → r ≡ first (switchWrong T) (switchCount T)) ⌝ }
+    ensures { λ r. ⌜ ((T : Tables) → T .ports ≡ now (ports .entry) → T .drivers ≡ now (drivers .entry)
+        → T .copies ≡ now (copies .entry) → T .modePorts ≡ now («mode_ports» .entry) → T .switches ≡ now (switches .entry)
+        → r ≡ first (switchWrong T) (switchCount T)) ⌝ }
 {
     let n = switches.len() / switch::WIDTH;
     let mut i = 0;

@@ -17,7 +17,8 @@ fn units_wrong(
     switches: &[i32],
     m: Mode,
 ) -> bool
-    ensures { λ r. ⌜ ((T : Tables) → T .modes ≡ now (modes .entry) → T .invocations ≡ now (invocations .entry) → T .updates ≡ now (updates .entry) → T .switches ≡ now (switches .entry) → r ≡ unitsWrong T (m .0)) ⌝ }
+    ensures { λ r. ⌜ ((T : Tables) → T .modes ≡ now (modes .entry) → T .invocations ≡ now (invocations .entry)
+        → T .updates ≡ now (updates .entry) → T .switches ≡ now (switches .entry) → r ≡ unitsWrong T (m .0)) ⌝ }
 {
     let units = multiples::units(invocations, updates, switches, m);
     let period = table::field(modes, mode::WIDTH, m.index(), mode::PERIOD);
@@ -31,7 +32,9 @@ pub fn first_wrong_units(
     updates: &[i32],
     switches: &[i32],
 ) -> usize
-    ensures { λ r. ⌜ ((T : Tables) → T .modes ≡ now (modes .entry) → T .invocations ≡ now (invocations .entry) → T .updates ≡ now (updates .entry) → T .switches ≡ now (switches .entry) → r ≡ first (λ m. unitsWrong T (nameOf m)) (modeCount T)) ⌝ }
+    ensures { λ r. ⌜ ((T : Tables) → T .modes ≡ now (modes .entry) → T .invocations ≡ now (invocations .entry)
+        → T .updates ≡ now (updates .entry) → T .switches ≡ now (switches .entry)
+        → r ≡ first (λ m. unitsWrong T (nameOf m)) (modeCount T)) ⌝ }
 {
     let n = modes.len() / mode::WIDTH;
     let mut m = 0;

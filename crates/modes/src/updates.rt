@@ -44,7 +44,9 @@ fn update_wrong(
     updates: &[i32],
     i: usize,
 ) -> bool
-    ensures { λ r. ⌜ ((T : Tables) → T .ports ≡ now (ports .entry) → T .drivers ≡ now (drivers .entry) → T .copies ≡ now (copies .entry) → T .modePorts ≡ now («mode_ports» .entry) → T .updates ≡ now (updates .entry) → r ≡ updateWrong T i) ⌝ }
+    ensures { λ r. ⌜ ((T : Tables) → T .ports ≡ now (ports .entry) → T .drivers ≡ now (drivers .entry)
+        → T .copies ≡ now (copies .entry) → T .modePorts ≡ now («mode_ports» .entry) → T .updates ≡ now (updates .entry)
+        → r ≡ updateWrong T i) ⌝ }
 {
     let m = table::mode(updates, update::WIDTH, i, update::MODE);
     let d = table::driver(updates, update::WIDTH, i, update::DRIVER);
@@ -62,7 +64,9 @@ pub fn first_wrong_update(
     mode_ports: &[i32],
     updates: &[i32],
 ) -> usize
-    ensures { λ r. ⌜ ((T : Tables) → T .ports ≡ now (ports .entry) → T .drivers ≡ now (drivers .entry) → T .copies ≡ now (copies .entry) → T .modePorts ≡ now («mode_ports» .entry) → T .updates ≡ now (updates .entry) → r ≡ first (updateWrong T) (updateCount T)) ⌝ }
+    ensures { λ r. ⌜ ((T : Tables) → T .ports ≡ now (ports .entry) → T .drivers ≡ now (drivers .entry)
+        → T .copies ≡ now (copies .entry) → T .modePorts ≡ now («mode_ports» .entry) → T .updates ≡ now (updates .entry)
+        → r ≡ first (updateWrong T) (updateCount T)) ⌝ }
 {
     let n = updates.len() / update::WIDTH;
     let mut i = 0;

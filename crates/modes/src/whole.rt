@@ -10,7 +10,8 @@ use program::multiples;
 
 // Switch row s and invocation row i are of one mode, and the division is not whole.
 fn not_whole(invocations: &[i32], switches: &[i32], s: usize, i: usize) -> bool
-    ensures { λ r. ⌜ ((T : Tables) → T .invocations ≡ now (invocations .entry) → T .switches ≡ now (switches .entry) → r ≡ notWhole T s i) ⌝ }
+    ensures { λ r. ⌜ ((T : Tables) → T .invocations ≡ now (invocations .entry) → T .switches ≡ now (switches .entry)
+        → r ≡ notWhole T s i) ⌝ }
 {
     let a = table::mode(invocations, invocation::WIDTH, i, invocation::MODE);
     let b = table::mode(switches, switch::WIDTH, s, switch::MODE);
@@ -21,7 +22,8 @@ fn not_whole(invocations: &[i32], switches: &[i32], s: usize, i: usize) -> bool
 
 // Some invocation row is such a one for switch row s.
 fn whole_wrong(invocations: &[i32], switches: &[i32], s: usize) -> bool
-    ensures { λ r. ⌜ ((T : Tables) → T .invocations ≡ now (invocations .entry) → T .switches ≡ now (switches .entry) → r ≡ wholeWrong T s) ⌝ }
+    ensures { λ r. ⌜ ((T : Tables) → T .invocations ≡ now (invocations .entry) → T .switches ≡ now (switches .entry)
+        → r ≡ wholeWrong T s) ⌝ }
 {
     let n = invocations.len() / invocation::WIDTH;
     let mut i = 0;
@@ -36,7 +38,8 @@ fn whole_wrong(invocations: &[i32], switches: &[i32], s: usize) -> bool
 
 // The lowest such switch row; the number of switch rows where there is none.
 pub fn first_not_whole(invocations: &[i32], switches: &[i32]) -> usize
-    ensures { λ r. ⌜ ((T : Tables) → T .invocations ≡ now (invocations .entry) → T .switches ≡ now (switches .entry) → r ≡ first (wholeWrong T) (switchCount T)) ⌝ }
+    ensures { λ r. ⌜ ((T : Tables) → T .invocations ≡ now (invocations .entry) → T .switches ≡ now (switches .entry)
+        → r ≡ first (wholeWrong T) (switchCount T)) ⌝ }
 {
     let n = switches.len() / switch::WIDTH;
     let mut s = 0;

@@ -40,7 +40,10 @@ fn shape_bad(
     results: &[i32],
     times: &[i32],
 ) -> bool
-    ensures { λ r. ⌜ ((start : ℤ) (s : State) → r ≡ advanceShapeBad (advancing (tables (now (ports .entry)) (now (tasks .entry)) (now («task_ports» .entry)) (now (drivers .entry)) (now (copies .entry)) (now (modes .entry)) (now («mode_ports» .entry)) (now (invocations .entry)) (now (updates .entry)) (now (switches .entry)) start) (now (code .entry)) (now (schedule .entry)) s (lent (now (readings .entry)) (now (results .entry)) (now (times .entry))))) ⌝ }
+    ensures { λ r. ⌜ ((start : ℤ) (s : State) → r ≡ advanceShapeBad (advancing (tables (now (ports .entry)) (now (tasks .entry))
+        (now («task_ports» .entry)) (now (drivers .entry)) (now (copies .entry)) (now (modes .entry)) (now («mode_ports» .entry))
+        (now (invocations .entry)) (now (updates .entry)) (now (switches .entry)) start) (now (code .entry)) (now (schedule .entry)) s
+        (lent (now (readings .entry)) (now (results .entry)) (now (times .entry))))) ⌝ }
 {
     slices::shape_bad(
         ports,
@@ -81,7 +84,10 @@ pub fn number(
     results: &[i32],
     times: &[i32],
 ) -> usize
-    ensures { λ r. ⌜ r ≡ advanceVerdict (advancing (tables (now (ports .entry)) (now (tasks .entry)) (now («task_ports» .entry)) (now (drivers .entry)) (now (copies .entry)) (now (modes .entry)) (now («mode_ports» .entry)) (now (invocations .entry)) (now (updates .entry)) (now (switches .entry)) start) (now (code .entry)) (now (schedule .entry)) s (lent (now (readings .entry)) (now (results .entry)) (now (times .entry)))) ⌝ }
+    ensures { λ r. ⌜ r ≡ advanceVerdict (advancing (tables (now (ports .entry)) (now (tasks .entry)) (now («task_ports» .entry))
+        (now (drivers .entry)) (now (copies .entry)) (now (modes .entry)) (now («mode_ports» .entry)) (now (invocations .entry))
+        (now (updates .entry)) (now (switches .entry)) start) (now (code .entry)) (now (schedule .entry)) s (lent
+        (now (readings .entry)) (now (results .entry)) (now (times .entry)))) ⌝ }
 {
     if shape_bad(
         ports,

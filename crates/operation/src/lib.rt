@@ -49,7 +49,9 @@ pub fn fresh(
     switches: &[i32],
     start: i32,
 ) -> Advanced
-    ensures { λ r. ⌜ r ≡ freshAnswer (tables (now (ports .entry)) (now (tasks .entry)) (now («task_ports» .entry)) (now (drivers .entry)) (now (copies .entry)) (now (modes .entry)) (now («mode_ports» .entry)) (now (invocations .entry)) (now (updates .entry)) (now (switches .entry)) start) ⌝ }
+    ensures { λ r. ⌜ r ≡ freshAnswer (tables (now (ports .entry)) (now (tasks .entry)) (now («task_ports» .entry))
+        (now (drivers .entry)) (now (copies .entry)) (now (modes .entry)) (now («mode_ports» .entry)) (now (invocations .entry))
+        (now (updates .entry)) (now (switches .entry)) start) ⌝ }
 {
     let number = verdict::program_verdict(
         ports,
@@ -87,7 +89,9 @@ fn ready(
     s: State,
 ) -> Advanced
     requires { ⌜ Named (now ports) (now tasks) (now drivers) ⌝ }
-    ensures { λ r. ⌜ ((T : Tables) → T .ports ≡ now (ports .entry) → T .tasks ≡ now (tasks .entry) → T .taskPorts ≡ now («task_ports» .entry) → T .drivers ≡ now (drivers .entry) → T .copies ≡ now (copies .entry) → r ≡ answer s (ready (programOf T) (instructions (now (code .entry))) (now (readings .entry)) (now (times .entry)) s)) ⌝ }
+    ensures { λ r. ⌜ ((T : Tables) → T .ports ≡ now (ports .entry) → T .tasks ≡ now (tasks .entry)
+        → T .taskPorts ≡ now («task_ports» .entry) → T .drivers ≡ now (drivers .entry) → T .copies ≡ now (copies .entry)
+        → r ≡ answer s (ready (programOf T) (instructions (now (code .entry))) (now (readings .entry)) (now (times .entry)) s)) ⌝ }
 {
     if 0 < s.remaining {
         return Advanced {
@@ -126,7 +130,10 @@ fn step(
     requires { ⌜ length (now code) / wordsEach ≤ maxCode ⌝ }
     requires { ⌜ s .current < length (now code) / wordsEach ⌝ }
     requires { ⌜ s .elapsed ≤ maxElapsed ⌝ }
-    ensures { λ r. ⌜ ((T : Tables) → T .ports ≡ now (ports .entry) → T .tasks ≡ now (tasks .entry) → T .taskPorts ≡ now («task_ports» .entry) → T .drivers ≡ now (drivers .entry) → T .copies ≡ now (copies .entry) → Rows T (now (schedule .entry)) → r ≡ answer s (step (programOf T) (instructions (now (code .entry))) (now (schedule .entry)) (lent (now (readings .entry)) (now (results .entry)) (now (times .entry))) s)) ⌝ }
+    ensures { λ r. ⌜ ((T : Tables) → T .ports ≡ now (ports .entry) → T .tasks ≡ now (tasks .entry)
+        → T .taskPorts ≡ now («task_ports» .entry) → T .drivers ≡ now (drivers .entry) → T .copies ≡ now (copies .entry)
+        → Rows T (now (schedule .entry)) → r ≡ answer s (step (programOf T) (instructions (now (code .entry))) (now (schedule .entry))
+        (lent (now (readings .entry)) (now (results .entry)) (now (times .entry))) s)) ⌝ }
 {
     let begun = ready(
         ports,
@@ -176,7 +183,10 @@ pub fn advance(
     results: &[i32],
     times: &[i32],
 ) -> Advanced
-    ensures { λ r. ⌜ r ≡ advanceAnswer (advancing (tables (now (ports .entry)) (now (tasks .entry)) (now («task_ports» .entry)) (now (drivers .entry)) (now (copies .entry)) (now (modes .entry)) (now («mode_ports» .entry)) (now (invocations .entry)) (now (updates .entry)) (now (switches .entry)) start) (now (code .entry)) (now (schedule .entry)) s (lent (now (readings .entry)) (now (results .entry)) (now (times .entry)))) ⌝ }
+    ensures { λ r. ⌜ r ≡ advanceAnswer (advancing (tables (now (ports .entry)) (now (tasks .entry)) (now («task_ports» .entry))
+        (now (drivers .entry)) (now (copies .entry)) (now (modes .entry)) (now («mode_ports» .entry)) (now (invocations .entry))
+        (now (updates .entry)) (now (switches .entry)) start) (now (code .entry)) (now (schedule .entry)) s (lent
+        (now (readings .entry)) (now (results .entry)) (now (times .entry)))) ⌝ }
 {
     let number = judged::number(
         ports,

@@ -33,6 +33,17 @@ next-around M k l = go (eqb (suc k) (M .units)) refl
 pub next-below : (M : Mode) (k : ℕ) → k < M .units → nextUnit M k < M .units
 next-below M k l = rw (next-around M k l) (mod-lt (suc k) {m = M .units} (omega arith))
 
+-- two units with the same next one are one
+pub next-once : (M : Mode) (k l : ℕ) → nextUnit M k ≡ nextUnit M l → k ≡ l
+next-once M k l = go (eqb (suc k) (M .units)) (eqb (suc l) (M .units)) refl refl
+  where
+    go : (x y : Bool) → eqb (suc k) (M .units) ≡ x → eqb (suc l) (M .units) ≡ y
+        → _≡_ {A = ℕ} (elim x [ true ↦ 0 | false ↦ suc k ]) (elim y [ true ↦ 0 | false ↦ suc l ]) → k ≡ l
+    go true true p q e = omega (arith, eqb-true (suc k) (M .units) p, eqb-true (suc l) (M .units) q)
+    go true false p q e = absurd (omega arith)
+    go false true p q e = absurd (omega arith)
+    go false false p q e = omega arith
+
 module _ (T : Tables) where
   -- the program has as many tasks, drivers and modes as the tables have rows
   pub task-count : length (programOf T .tasks) ≡ taskCount T

@@ -1,7 +1,7 @@
 -- What a driver's moves and a task's outputs write, as assignments to the ports.
 -- Assumes nothing; `takes-at`, that the port lies inside.
 use Prim.Native.Nat.{ℕ, _<_}
-use mathlib.Core.Path.{_≡_, ap, sym, _∙_}
+use mathlib.Core.Path.{_≡_, refl, ap, sym, _∙_}
 use mathlib.Core.Bool.{Bool, true, false}
 use mathlib.Core.List.{List, [], map}
 use mathlib.Core.Logic.{_↔_, Iff·trans}
@@ -19,17 +19,24 @@ use Rattle.program.specs.Ports.{valueOf, takes, copyPuts, moves}
 pub wrote-takes : (value : ℕ → ℤ) (ps : List ℕ) (p : ℕ) (x : ℤ) → Wrote (takes value ps) p x ↔ Has (λ q. (q ≡ p) × (x ≡ value q)) ps
 wrote-takes value ps p x = has-map (λ a. (a .place ≡ p) × (x ≡ a .value)) (λ q. record { place = q; value = value q }) ps
 
+-- so p gets x exactly where it is one of them, and x its value
+pub takes-exactly : (value : ℕ → ℤ) (ps : List ℕ) (p : ℕ) (x : ℤ) → Wrote (takes value ps) p x ↔ ((member p ps ≡ true) × (x ≡ value p))
+takes-exactly value ps p x = (
+  λ w.
+      let h = wrote-takes value ps p x .0 w in
+      (is-true (member-says p ps) (has-as _ _ ps (λ q e. sym (e .0)) h), has-then _ ps (λ q e. e .1 ∙ ap value (e .0)) h),
+  λ (m, e). wrote-takes value ps p x .1 (has-as _ _ ps (λ q d. (sym d, e ∙ ap value d)) (member-says p ps .yes m)),
+)
+
 -- each has it afterwards
 pub takes-at : (value : ℕ → ℤ) (ps : List ℕ) (v : List ℤ) (p : ℕ) → p < length v → member p ps ≡ true → valueOf (puts (takes value ps) v) p ≡ value p
 takes-at value ps v p l m =
     puts-at (pos 0) (takes value ps) v p (value p) l
-    (wrote-takes value ps p (value p) .1 (has-as _ _ ps (λ q e. (sym e, ap value e)) (member-says p ps .yes m)))
-    (λ y w. has-then _ ps (λ q e. e .1 ∙ ap value (e .0)) (wrote-takes value ps p y .0 w))
+    (takes-exactly value ps p (value p) .1 (m, refl)) (λ y w. takes-exactly value ps p y .0 w .1)
 
 -- a port that is none of them is not written
 pub takes-miss : (value : ℕ → ℤ) (ps : List ℕ) (p : ℕ) → member p ps ≡ false → (x : ℤ) → Wrote (takes value ps) p x → ⊥
-takes-miss value ps p n x w =
-    clash (is-true (member-says p ps) (has-as _ _ ps (λ q e. sym (e .0)) (wrote-takes value ps p x .0 w))) n
+takes-miss value ps p n x w = clash (takes-exactly value ps p x .0 w .0) n
 
 -- a driver writes only its destinations
 pub moves-miss : (D : Driver) (v : List ℤ) (p : ℕ) → member p (map (λ c. c .destination) (D .copies)) ≡ false → (x : ℤ) → Wrote (moves v D) p x → ⊥

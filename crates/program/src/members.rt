@@ -50,7 +50,8 @@ pub fn has_task_port(task_ports: &[i32], t: Task, p: Port, n: usize) -> bool
 
 // p is an input of task t.
 pub fn is_input(ports: &[i32], task_ports: &[i32], t: Task, p: Port) -> bool
-    ensures { λ r. ⌜ ((T : Tables) → T .ports ≡ now (ports .entry) → T .taskPorts ≡ now («task_ports» .entry) → r ≡ isInput T (t .0) (p .0)) ⌝ }
+    ensures { λ r. ⌜ ((T : Tables) → T .ports ≡ now (ports .entry) → T .taskPorts ≡ now («task_ports» .entry)
+        → r ≡ isInput T (t .0) (p .0)) ⌝ }
 {
     if is_kind(ports, port::INPUT, p) {
         return has_task_port(task_ports, t, p, task_ports.len() / task_port::WIDTH);
@@ -60,7 +61,8 @@ pub fn is_input(ports: &[i32], task_ports: &[i32], t: Task, p: Port) -> bool
 
 // p is an output of task t.
 pub fn is_output(ports: &[i32], task_ports: &[i32], t: Task, p: Port) -> bool
-    ensures { λ r. ⌜ ((T : Tables) → T .ports ≡ now (ports .entry) → T .taskPorts ≡ now («task_ports» .entry) → r ≡ isOutput T (t .0) (p .0)) ⌝ }
+    ensures { λ r. ⌜ ((T : Tables) → T .ports ≡ now (ports .entry) → T .taskPorts ≡ now («task_ports» .entry)
+        → r ≡ isOutput T (t .0) (p .0)) ⌝ }
 {
     if is_kind(ports, port::OUTPUT, p) {
         return has_task_port(task_ports, t, p, task_ports.len() / task_port::WIDTH);

@@ -50,7 +50,8 @@ fn some_row_misses(t: &[i32], width: usize, m: Mode, u: usize) -> bool
 
 // u is a multiple of every frequency of mode m.
 fn is_multiple(invocations: &[i32], updates: &[i32], switches: &[i32], m: Mode, u: usize) -> bool
-    ensures { λ r. ⌜ ((T : Tables) → T .invocations ≡ now (invocations .entry) → T .updates ≡ now (updates .entry) → T .switches ≡ now (switches .entry) → r ≡ isMultiple T (m .0) u) ⌝ }
+    ensures { λ r. ⌜ ((T : Tables) → T .invocations ≡ now (invocations .entry) → T .updates ≡ now (updates .entry)
+        → T .switches ≡ now (switches .entry) → r ≡ isMultiple T (m .0) u) ⌝ }
 {
     let a = some_row_misses(invocations, invocation::WIDTH, m, u);
     let b = some_row_misses(updates, update::WIDTH, m, u);
@@ -60,7 +61,8 @@ fn is_multiple(invocations: &[i32], updates: &[i32], switches: &[i32], m: Mode, 
 
 // The units of mode m; one more than the limit where the least common multiple exceeds it.
 pub fn units(invocations: &[i32], updates: &[i32], switches: &[i32], m: Mode) -> usize
-    ensures { λ r. ⌜ ((T : Tables) → T .invocations ≡ now (invocations .entry) → T .updates ≡ now (updates .entry) → T .switches ≡ now (switches .entry) → r ≡ units T (m .0)) ⌝ }
+    ensures { λ r. ⌜ ((T : Tables) → T .invocations ≡ now (invocations .entry) → T .updates ≡ now (updates .entry)
+        → T .switches ≡ now (switches .entry) → r ≡ units T (m .0)) ⌝ }
 {
     let mut u = 0;
     while u < Program::UNITS {

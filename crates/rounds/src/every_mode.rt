@@ -44,7 +44,10 @@ fn one_mode(
     requires { ⌜ first + mostMode ≤ mostCode ⌝ }
     requires { ⌜ Sorted (now part) ⌝ }
     requires { ⌜ Come (now part) supplier first from ⌝ }
-    ensures { λ r. ⌜ ((T : Tables) → T .tasks ≡ now (tasks .entry) → T .modes ≡ now (modes .entry) → T .invocations ≡ now (invocations .entry) → T .updates ≡ now (updates .entry) → T .switches ≡ now (switches .entry) → r ≡ rounded (worstBreak (courseOn T (now (windows .entry)) (now (part .entry)) supplier sensors m first) nothing) (first + sizeIn T sensors m) (rowBefore (now (part .entry)) supplier (unitCounts T sensors m) first from (units T m))) ⌝ }
+    ensures { λ r. ⌜ ((T : Tables) → T .tasks ≡ now (tasks .entry) → T .modes ≡ now (modes .entry)
+        → T .invocations ≡ now (invocations .entry) → T .updates ≡ now (updates .entry) → T .switches ≡ now (switches .entry)
+        → r ≡ rounded (worstBreak (courseOn T (now (windows .entry)) (now (part .entry)) supplier sensors m first) nothing)
+        (first + sizeIn T sensors m) (rowBefore (now (part .entry)) supplier (unitCounts T sensors m) first from (units T m))) ⌝ }
 {
     let own = Mode::of(m);
     let u = multiples::units(invocations, updates, switches, own);
@@ -83,7 +86,10 @@ pub fn answer(
     requires { ⌜ Periods (now modes) ⌝ }
     requires { ⌜ rowsIn modeWidth (now modes) ≤ maxModes ⌝ }
     requires { ⌜ Sorted (now part) ⌝ }
-    ensures { λ r. ⌜ ((T : Tables) → T .tasks ≡ now (tasks .entry) → T .modes ≡ now (modes .entry) → T .invocations ≡ now (invocations .entry) → T .updates ≡ now (updates .entry) → T .switches ≡ now (switches .entry) → r ≡ answerFrom (λ m. worstBreak (courseOn T (now (windows .entry)) (now (part .entry)) supplier sensors m (startIn T sensors m)) nothing) (modeCount T) 0) ⌝ }
+    ensures { λ r. ⌜ ((T : Tables) → T .tasks ≡ now (tasks .entry) → T .modes ≡ now (modes .entry)
+        → T .invocations ≡ now (invocations .entry) → T .updates ≡ now (updates .entry) → T .switches ≡ now (switches .entry)
+        → r ≡ answerFrom (λ m. worstBreak (courseOn T (now (windows .entry)) (now (part .entry)) supplier sensors m
+        (startIn T sensors m)) nothing) (modeCount T) 0) ⌝ }
 {
     let n = modes.len() / mode::WIDTH;
     let mut at = 1;

@@ -66,7 +66,8 @@ pub fn released(
     k: usize,
     left: [usize; Program::TASKS],
 ) -> [usize; Program::TASKS]
-    ensures { λ r. ⌜ r ≡ release (ownRows (now (tasks .entry)) (now (invocations .entry)) supplier (m .0) u k) (fieldAt taskWidth taskTime (now (tasks .entry))) left ⌝ }
+    ensures { λ r. ⌜ r ≡ release (ownRows (now (tasks .entry)) (now (invocations .entry)) supplier (m .0) u k)
+        (fieldAt taskWidth taskTime (now (tasks .entry))) left ⌝ }
 {
     let n = invocations.len() / invocation::WIDTH;
     let mut rest = left;

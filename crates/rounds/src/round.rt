@@ -45,7 +45,11 @@ pub fn one_round(
     requires { ⌜ first + mostMode ≤ mostCode ⌝ }
     requires { ⌜ Sorted (now part) ⌝ }
     requires { ⌜ Come (now part) supplier first from ⌝ }
-    ensures { λ r. ⌜ r ≡ rounded (worstBreak (courseIn (now (tasks .entry)) (now (invocations .entry)) (now (windows .entry)) supplier (m .0) u ticks (blockIn (now (part .entry)) supplier (countsIn (now (invocations .entry)) (now (updates .entry)) (now (switches .entry)) sensors (m .0) u) first)) nothing) (blockAt (countsIn (now (invocations .entry)) (now (updates .entry)) (now (switches .entry)) sensors (m .0) u) first u) (rowBefore (now (part .entry)) supplier (countsIn (now (invocations .entry)) (now (updates .entry)) (now (switches .entry)) sensors (m .0) u) first from u) ⌝ }
+    ensures { λ r. ⌜ r ≡ rounded (worstBreak (courseIn (now (tasks .entry)) (now (invocations .entry)) (now (windows .entry)) supplier
+        (m .0) u ticks (blockIn (now (part .entry)) supplier (countsIn (now (invocations .entry)) (now (updates .entry))
+        (now (switches .entry)) sensors (m .0) u) first)) nothing) (blockAt (countsIn (now (invocations .entry))
+        (now (updates .entry)) (now (switches .entry)) sensors (m .0) u) first u) (rowBefore (now (part .entry)) supplier (countsIn
+        (now (invocations .entry)) (now (updates .entry)) (now (switches .entry)) sensors (m .0) u) first from u) ⌝ }
 {
     let mut left = [0; Program::TASKS];
     let mut at = first;

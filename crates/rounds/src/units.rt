@@ -33,7 +33,8 @@ pub fn one_unit(
     requires { ⌜ k < u ⌝ }
     requires { ⌜ u ≤ suc maxUnits ⌝ }
     requires { ⌜ ticks ≤ maxPeriod ⌝ }
-    ensures { λ r. ⌜ r ≡ unitEnd (courseIn (now (tasks .entry)) (now (invocations .entry)) (now (windows .entry)) supplier (m .0) u ticks (λ j. rowsOf (now (block .entry)))) k left ⌝ }
+    ensures { λ r. ⌜ r ≡ unitEnd (courseIn (now (tasks .entry)) (now (invocations .entry)) (now (windows .entry)) supplier
+        (m .0) u ticks (λ j. rowsOf (now (block .entry)))) k left ⌝ }
 {
     let begun = own::released(tasks, invocations, supplier, m, u, k, left);
     let end = unit::watch(block, windows, supplier, m, ticks, k * ticks, begun);

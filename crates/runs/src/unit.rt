@@ -28,7 +28,8 @@ pub fn watch(
     left: [usize; Program::TASKS],
 ) -> Watched
     requires { ⌜ start + ticks ≤ greatestWord ⌝ }
-    ensures { λ r. ⌜ r ≡ toldTicks (watched (inWindow (now (windows .entry)) supplier (m .0)) (rowsOf (now (block .entry))) ticks 0 start (record { position = 0; left = left })) ⌝ }
+    ensures { λ r. ⌜ r ≡ toldTicks (watched (inWindow (now (windows .entry)) supplier (m .0)) (rowsOf
+        (now (block .entry))) ticks 0 start (record { position = 0; left = left })) ⌝ }
 {
     let mut rest = left;
     let mut position = 0;

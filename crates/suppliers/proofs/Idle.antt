@@ -19,7 +19,7 @@ use Rattle.program.proofs.Decoded.{task-row}
 use Rattle.rules.specs.Verdict.{programVerdict}
 use Rattle.rules.proofs.Shape.{slice-bars}
 use Rattle.rules.proofs.Accepted.{due-declared}
-use Rattle.runs.specs.Tick.{runs, act, Place, moved, doing}
+use Rattle.runs.specs.Tick.{runs, act, Place, moved, runsIn}
 use Rattle.runs.specs.Schedule.{scheduleWidth}
 use Rattle.runs.specs.Round.{alone, Good, worstCase, nothing}
 use Rattle.suppliers.specs.Windows.{windowsVerdict}
@@ -41,7 +41,7 @@ no-rows T s l = record {
 }
 
 -- without rows nothing runs
-nothing-runs : (e : ℕ) (p : Place) → runs (doing [] e p) ≡ true → ⊥
+nothing-runs : (e : ℕ) (p : Place) → runsIn [] e p ≡ true → ⊥
 nothing-runs e p = go (moved [] e p)
   where
     go : (n : ℕ) → runs (act (drop n [])) ≡ true → ⊥

@@ -60,8 +60,12 @@ pub fn refused(
     requires { ⌜ Few (now invocations) (now updates) (now switches) ⌝ }
     requires { ⌜ rowsIn modeWidth (now modes) ≤ maxModes ⌝ }
     requires { ⌜ rowsIn portWidth (now ports) ≤ maxPorts ⌝ }
-    ensures counted { λ r. ⌜ ((T : Tables) → T .ports ≡ now (ports .entry) → T .tasks ≡ now (tasks .entry) → T .modes ≡ now (modes .entry) → T .invocations ≡ now (invocations .entry) → T .updates ≡ now (updates .entry) → T .switches ≡ now (switches .entry) → r ≡ joinedBadBy T (countedDelays T) (now (rows .entry))) ⌝ }
-    ensures listed { λ r. ⌜ ((T : Tables) → T .ports ≡ now (ports .entry) → T .tasks ≡ now (tasks .entry) → T .modes ≡ now (modes .entry) → T .invocations ≡ now (invocations .entry) → T .updates ≡ now (updates .entry) → T .switches ≡ now (switches .entry) → programVerdict T ≡ 0 → CodeFits T → r ≡ joinedBad T (now (rows .entry))) ⌝ }
+    ensures counted { λ r. ⌜ ((T : Tables) → T .ports ≡ now (ports .entry) → T .tasks ≡ now (tasks .entry)
+        → T .modes ≡ now (modes .entry) → T .invocations ≡ now (invocations .entry) → T .updates ≡ now (updates .entry)
+        → T .switches ≡ now (switches .entry) → r ≡ joinedBadBy T (countedDelays T) (now (rows .entry))) ⌝ }
+    ensures listed { λ r. ⌜ ((T : Tables) → T .ports ≡ now (ports .entry) → T .tasks ≡ now (tasks .entry)
+        → T .modes ≡ now (modes .entry) → T .invocations ≡ now (invocations .entry) → T .updates ≡ now (updates .entry)
+        → T .switches ≡ now (switches .entry) → programVerdict T ≡ 0 → CodeFits T → r ≡ joinedBad T (now (rows .entry))) ⌝ }
 {
     let mut table = [0u32; Program::CODE];
     delays::fill(ports, modes, invocations, updates, switches, &mut table);

@@ -27,8 +27,12 @@ pub fn refused(
     requires { ⌜ Few (now invocations) (now updates) (now switches) ⌝ }
     requires { ⌜ rowsIn modeWidth (now modes) ≤ maxModes ⌝ }
     requires { ⌜ rowsIn portWidth (now ports) ≤ maxPorts ⌝ }
-    ensures counted { λ r. ⌜ ((T : Tables) → T .ports ≡ now (ports .entry) → T .tasks ≡ now (tasks .entry) → T .modes ≡ now (modes .entry) → T .invocations ≡ now (invocations .entry) → T .updates ≡ now (updates .entry) → T .switches ≡ now (switches .entry) → r ≡ partBadBy T (countedDelays T) (now (rows .entry)) supplier) ⌝ }
-    ensures listed { λ r. ⌜ ((T : Tables) → T .ports ≡ now (ports .entry) → T .tasks ≡ now (tasks .entry) → T .modes ≡ now (modes .entry) → T .invocations ≡ now (invocations .entry) → T .updates ≡ now (updates .entry) → T .switches ≡ now (switches .entry) → programVerdict T ≡ 0 → CodeFits T → r ≡ partBad T (now (rows .entry)) supplier) ⌝ }
+    ensures counted { λ r. ⌜ ((T : Tables) → T .ports ≡ now (ports .entry) → T .tasks ≡ now (tasks .entry)
+        → T .modes ≡ now (modes .entry) → T .invocations ≡ now (invocations .entry) → T .updates ≡ now (updates .entry)
+        → T .switches ≡ now (switches .entry) → r ≡ partBadBy T (countedDelays T) (now (rows .entry)) supplier) ⌝ }
+    ensures listed { λ r. ⌜ ((T : Tables) → T .ports ≡ now (ports .entry) → T .tasks ≡ now (tasks .entry)
+        → T .modes ≡ now (modes .entry) → T .invocations ≡ now (invocations .entry) → T .updates ≡ now (updates .entry)
+        → T .switches ≡ now (switches .entry) → programVerdict T ≡ 0 → CodeFits T → r ≡ partBad T (now (rows .entry)) supplier) ⌝ }
 {
     let mut table = [0u32; Program::CODE];
     delays::fill(ports, modes, invocations, updates, switches, &mut table);

@@ -78,7 +78,8 @@ fn row_wrong(tasks: &[i32], delays: &[u32], rows: &[i32], i: usize) -> bool
 
 // The first row that is wrong; the count where none is.
 pub fn first_wrong_row(tasks: &[i32], delays: &[u32], rows: &[i32]) -> usize
-    ensures { λ r. ⌜ ((T : Tables) → T .tasks ≡ now (tasks .entry) → r ≡ first (rowWrongBy T (now (delays .entry)) (now (rows .entry))) (scheduleCount (now (rows .entry)))) ⌝ }
+    ensures { λ r. ⌜ ((T : Tables) → T .tasks ≡ now (tasks .entry)
+        → r ≡ first (rowWrongBy T (now (delays .entry)) (now (rows .entry))) (scheduleCount (now (rows .entry)))) ⌝ }
 {
     let n = rows.len() / schedule::WIDTH;
     let mut i = 0;

@@ -52,7 +52,8 @@ fn window_wrong(modes: &[i32], windows: &[i32], i: usize) -> bool
 
 // The first row that is wrong; the count where none is.
 pub fn first_wrong_window(modes: &[i32], windows: &[i32]) -> usize
-    ensures { λ r. ⌜ ((T : Tables) → T .modes ≡ now (modes .entry) → r ≡ first (windowWrong T (now (windows .entry))) (windowCount (now (windows .entry)))) ⌝ }
+    ensures { λ r. ⌜ ((T : Tables) → T .modes ≡ now (modes .entry)
+        → r ≡ first (windowWrong T (now (windows .entry))) (windowCount (now (windows .entry)))) ⌝ }
 {
     let n = windows.len() / window::WIDTH;
     let mut i = 0;

@@ -37,7 +37,11 @@ pub fn table_verdict(
     switches: &[i32],
     start: i32,
 ) -> usize
-    ensures { λ r. ⌜ (shapeBad (tables (now (ports .entry)) (now (tasks .entry)) (now («task_ports» .entry)) (now (drivers .entry)) (now (copies .entry)) (now (modes .entry)) (now («mode_ports» .entry)) (now (invocations .entry)) (now (updates .entry)) (now (switches .entry)) start) ≡ false → r ≡ verdict tableRefusals (tables (now (ports .entry)) (now (tasks .entry)) (now («task_ports» .entry)) (now (drivers .entry)) (now (copies .entry)) (now (modes .entry)) (now («mode_ports» .entry)) (now (invocations .entry)) (now (updates .entry)) (now (switches .entry)) start)) ⌝ }
+    ensures { λ r. ⌜ (shapeBad (tables (now (ports .entry)) (now (tasks .entry)) (now («task_ports» .entry)) (now (drivers .entry))
+        (now (copies .entry)) (now (modes .entry)) (now («mode_ports» .entry)) (now (invocations .entry)) (now (updates .entry))
+        (now (switches .entry)) start) ≡ false → r ≡ verdict tableRefusals (tables (now (ports .entry)) (now (tasks .entry))
+        (now («task_ports» .entry)) (now (drivers .entry)) (now (copies .entry)) (now (modes .entry)) (now («mode_ports» .entry))
+        (now (invocations .entry)) (now (updates .entry)) (now (switches .entry)) start)) ⌝ }
 {
     if searches::fields_bad(
         ports,
@@ -108,7 +112,9 @@ pub fn program_verdict(
     switches: &[i32],
     start: i32,
 ) -> usize
-    ensures { λ r. ⌜ r ≡ programVerdict (tables (now (ports .entry)) (now (tasks .entry)) (now («task_ports» .entry)) (now (drivers .entry)) (now (copies .entry)) (now (modes .entry)) (now («mode_ports» .entry)) (now (invocations .entry)) (now (updates .entry)) (now (switches .entry)) start) ⌝ }
+    ensures { λ r. ⌜ r ≡ programVerdict (tables (now (ports .entry)) (now (tasks .entry)) (now («task_ports» .entry))
+        (now (drivers .entry)) (now (copies .entry)) (now (modes .entry)) (now («mode_ports» .entry)) (now (invocations .entry))
+        (now (updates .entry)) (now (switches .entry)) start) ⌝ }
 {
     if slices::shape_bad(
         ports,

@@ -8,7 +8,7 @@ use mathlib.Core.Logic.{_⊎_, inl, inr}
 use native.Mathlib.Omega.{arith}
 use Rattle.cells.specs.Cell.{numAt}
 use Rattle.cells.specs.Limits.{suppliers}
-use Rattle.program.specs.Tables.{taskCount, taskSupplier}
+use Rattle.program.specs.Tables.{taskCount}
 use Rattle.program.specs.Program.{programOf, task}
 use Rattle.rules.specs.Fields.{InRange}
 use Rattle.rules.proofs.Accepted.{accepted-fields}
@@ -25,6 +25,7 @@ use Rattle.demands.proofs.Idle.{accepted-of}
 use Rattle.demands.proofs.Supplied.{premises-met, worst-case-fair}
 use Rattle.worked.specs.Computed.{computed}
 use Rattle.worked.specs.Systems.{pair, pair-system, mix, readings, changing, runsAsGiotto, whoEach}
+use Rattle.worked.proofs.Runs.{two-below}
 
 -- two rounds of the machine are those of Giotto's execution
 pair-runs : runsAsGiotto pair-system mix readings changing 16 ≡ true
@@ -40,17 +41,11 @@ unfolding computed
 pair-shares = refl
 
 -- suppliers 0 and 1 are accepted alone, and the others have nothing to do
-pair-owners : (s t : ℕ) → t < taskCount pair → taskSupplier pair t ≡ suc (suc s) → ⊥
-unfolding computed
-pair-owners s zero l e = omega arith
-pair-owners s (suc zero) l e = omega arith
-pair-owners s (suc (suc t)) l e = omega arith
-
 pair-suppliers : (s : ℕ) → s < suppliers → Idle (askedOf pair-system s) ⊎ (supplierVerdict (askedOf pair-system s) .number ≡ 0)
 unfolding computed
 pair-suppliers zero l = inr refl
 pair-suppliers (suc zero) l = inr refl
-pair-suppliers (suc (suc s)) l = inl (record { no-rows = refl; no-tasks = pair-owners s })
+pair-suppliers (suc (suc s)) l = inl (record { no-rows = refl; no-tasks = two-below pair (suc (suc s)) refl (omega arith) (omega arith) })
 
 pub pair-accepted : Accepted pair-system
 unfolding computed

@@ -81,7 +81,7 @@ both-refused = refl
 pub monitor-collides : Keep advanceRules both × Collides both
 monitor-collides = collision-exact both .0 both-refused
 
--- 19: an unknown instruction number, and running off the end with the last instruction
+-- 19: an unknown instruction number, a word that is not used and not 0, and running off the end with the last instruction
 abbrev unknown : Advance
 unknown = running (6 ∷ 0 ∷ 0 ∷ [])
 
@@ -91,6 +91,10 @@ unknown-refused = refl
 
 pub F-unknown : Keep advanceRules unknown × Faults unknown
 F-unknown = faulty-exact unknown .0 unknown-refused
+
+unused-refused : advanceAnswer (running (4 ∷ 5 ∷ 0 ∷ 5 ∷ 0 ∷ 1 ∷ [])) .number ≡ 19
+unfolding computed
+unused-refused = refl
 
 abbrev open-ended : Advance
 open-ended = running (0 ∷ 0 ∷ 0 ∷ [])

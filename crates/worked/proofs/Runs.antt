@@ -7,7 +7,7 @@ use mathlib.Core.List.{[], _∷_}
 use mathlib.Core.Logic.{_⊎_, inl, inr}
 use native.Mathlib.Omega.{arith}
 use Rattle.cells.specs.Limits.{suppliers}
-use Rattle.program.specs.Tables.{taskCount, taskSupplier}
+use Rattle.program.specs.Tables.{Tables, taskCount, taskSupplier}
 use Rattle.program.specs.Program.{programOf}
 use Rattle.suppliers.specs.Supplier.{supplierVerdict}
 use Rattle.giotto.specs.Execution.{execution}
@@ -40,31 +40,27 @@ monitor-returns : execution (programOf (monitor-system .tables)) mix gaps 9 .mod
 unfolding computed
 monitor-returns = refl
 
--- F's tasks are of supplier 0, the monitor's of suppliers 0 and 1
-F-owners : (s t : ℕ) → t < taskCount (F-system .tables) → taskSupplier (F-system .tables) t ≡ suc s → ⊥
-unfolding computed
-F-owners s zero l e = omega arith
-F-owners s (suc zero) l e = omega arith
-F-owners s (suc (suc t)) l e = omega arith
+-- two tasks of suppliers below s: none is of s
+pub two-below : (T : Tables) (s : ℕ) → taskCount T ≡ 2 → taskSupplier T 0 < s → taskSupplier T 1 < s
+    → (t : ℕ) → t < taskCount T → taskSupplier T t ≡ s → ⊥
+two-below T s n a b zero l e = omega (arith, a, e)
+two-below T s n a b (suc zero) l e = omega (arith, b, e)
+two-below T s n a b (suc (suc t)) l e = omega (arith, l, n)
 
-monitor-owners : (s t : ℕ) → t < taskCount (monitor-system .tables) → taskSupplier (monitor-system .tables) t ≡ suc (suc s) → ⊥
-unfolding computed
-monitor-owners s zero l e = omega arith
-monitor-owners s (suc zero) l e = omega arith
-monitor-owners s (suc (suc t)) l e = omega arith
-
--- these are accepted alone, and the others have nothing to do
+-- F's supplier 0 is accepted alone, and so are the monitor's suppliers 0 and 1; the others have nothing to do
 F-suppliers : (s : ℕ) → s < suppliers → Idle (askedOf F-system s) ⊎ (supplierVerdict (askedOf F-system s) .number ≡ 0)
 unfolding computed
 F-suppliers zero l = inr refl
-F-suppliers (suc zero) l = inl (record { no-rows = refl; no-tasks = F-owners 0 })
-F-suppliers (suc (suc s)) l = inl (record { no-rows = refl; no-tasks = F-owners (suc s) })
+F-suppliers (suc zero) l = inl (record { no-rows = refl; no-tasks = two-below (F-system .tables) 1 refl (omega arith) (omega arith) })
+F-suppliers (suc (suc s)) l =
+    inl (record { no-rows = refl; no-tasks = two-below (F-system .tables) (suc (suc s)) refl (omega arith) (omega arith) })
 
 monitor-suppliers : (s : ℕ) → s < suppliers → Idle (askedOf monitor-system s) ⊎ (supplierVerdict (askedOf monitor-system s) .number ≡ 0)
 unfolding computed
 monitor-suppliers zero l = inr refl
 monitor-suppliers (suc zero) l = inr refl
-monitor-suppliers (suc (suc s)) l = inl (record { no-rows = refl; no-tasks = monitor-owners s })
+monitor-suppliers (suc (suc s)) l =
+    inl (record { no-rows = refl; no-tasks = two-below (monitor-system .tables) (suc (suc s)) refl (omega arith) (omega arith) })
 
 -- so both systems are accepted
 pub F-accepted : Accepted F-system
