@@ -4,8 +4,8 @@ use Prim.Native.Nat.{ℕ, _≤_}
 use mathlib.Core.Path.{_≡_}
 use mathlib.Core.Bool.{true}
 use mathlib.Core.List.{List, _++_}
-use lib.IntN.{ℤ}
-use lib.ListN.{length}
+use lib.IntN.{ℤ, pos}
+use lib.ListN.{length, replicate}
 use Rattle.text.specs.Input.{program}
 use Rattle.intake.specs.Shapes.{wholeRoom}
 use Rattle.intake.specs.Change.{startIntake}
@@ -16,6 +16,10 @@ use Rattle.intake.specs.Heard.{heard}
 -- there is a place for every number of the largest program
 abbrev pub Roomy : List ℤ → Type 0
 Roomy room = wholeRoom ≤ length room
+
+-- such a room, before anything is read
+abbrev pub emptyRoom : List ℤ
+emptyRoom = replicate wholeRoom (pos 0)
 
 -- a text, from its first byte on, into this room
 abbrev pub takenIn : List ℤ → List ℕ → Fed

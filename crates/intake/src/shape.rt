@@ -1,6 +1,7 @@
 // The ten tables in the order in which a text has them: how many numbers a row has, most rows, and the room for all.
 ghost use mathlib.Core.Path.{_≡_};
 ghost use Rattle.intake.specs.Shapes.{shapeAt};
+ghost use Rattle.intake.specs.Exact.{emptyRoom, Roomy};
 use cells::columns::copy;
 use cells::columns::driver;
 use cells::columns::invocation;
@@ -74,4 +75,11 @@ pub fn limit(table: usize) -> usize
         return LIMITS[table];
     }
     0
+}
+
+// A room for the largest program, all 0.
+pub fn empty_room() -> [i32; ROOM]
+    ensures { λ r. ⌜ (r ≡ emptyRoom) × Roomy r ⌝ }
+{
+    [0i32; ROOM]
 }

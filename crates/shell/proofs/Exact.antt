@@ -1,20 +1,133 @@
--- The shipped program prints what document 01 says of the text that it has read, and of every text that begins so once it is decided.
--- Assumes nothing.
-use mathlib.Core.Path.{ap, _∙_}
-use mathlib.Core.List.{[]}
-use Rattle.intake.proofs.Exact.{reads-exactly, decides-at-once}
-use Rattle.intake.proofs.Decided.{decided-stays}
-use Rattle.intake.specs.Exact.{takenIn}
-use Rattle.shell.specs.Answer.{answerOf, blank, textOfAnswer}
-use Rattle.shell.specs.Exact.{PrintsExactly, StopsAtOnce}
-use Rattle.shell.proofs.Shipped.{shipped-text}
+-- The shipped program prints what document 01 says of the text that reads bring, in whatever pieces, however much each write takes; and
+-- it asks for no read once the text is decided. Assumes nothing.
+use Prim.Native.Nat.{ℕ, min}
+use mathlib.Core.Path.{_≡_, refl, sym, ap, _∙_}
+use mathlib.Core.Bool.{Bool, true, false}
+use mathlib.Core.List.{List, [], _∷_, _++_}
+use native.Mathlib.Omega.{arith}
+use lib.IntN.{pos}
+use borrow.Author.Tests.{le-ltb}
+use lib.ListN.{length, getD, replicate, length-replicate}
+use Rattle.text.specs.Decimal.{newline}
+use Rattle.text.specs.Part.{capped, partAfter, signedOf}
+use Rattle.text.specs.Line.{room}
+use Rattle.text.specs.Shipped.{badInput, verdictLine, printed, shipped}
+use Rattle.intake.specs.Change.{startIntake}
+use Rattle.intake.specs.Shapes.{wholeRoom, shapeAt}
+use Rattle.intake.specs.Line.{Fed, fed, isDecided, isComplete, countedOf, tookOf}
+use Rattle.intake.specs.Bytes.{lineEnd, fedOf, fedAll, endedOf}
+use Rattle.intake.specs.Heard.{heard}
+use Rattle.intake.specs.Exact.{emptyRoom}
+use Rattle.intake.proofs.Cut.{cut-anywhere}
+use Rattle.intake.proofs.Exact.{reads-exactly}
+use Rattle.shell.specs.Reading.{Brought, end, failure, pieceOf, brought, Hearing, afterRead}
+use Rattle.shell.specs.Answer.{answerOf}
+use Rattle.shell.specs.Writing.{openingOf, codeOf, pageOf, restOf, wroteOf, isWritten}
+use Rattle.shell.specs.Exact.{Buffers, Finished, pieces, joined, heardBy, answerTo, firstPage, Prints, BroughtExactly, PrintsExactly, FailsPlainly, StopsDecided, StopsAtOnce}
+use Rattle.shell.proofs.Shipped.{read-text}
+use Rattle.shell.proofs.Hearing.{brought-bytes, some-bytes, hears-one}
+use Rattle.shell.proofs.Handing.{first-pending, page-ready, taken-pending, taken-whole, writes-end}
+use Rattle.shell.proofs.Pieces.{pieces-heard, stopped-heard, going-heard}
+use Rattle.shell.proofs.AtOnce.{noNumber, heard-bad, spoilt-bad}
 
--- a whole text
+-- what is printed of what was heard
+prints : (B : Buffers) (reads : List Brought) (text : List ℕ) → printed (heard (heardBy B reads .fed)) ≡ text → Prints B reads text
+prints B reads text e =
+    let a = answerTo B reads in
+    let p = firstPage B reads in
+    let ready = page-ready a false 0 (B .bytes) (B .fits) in
+    let all = first-pending a 0 (B .bytes) ∙ read-text (heard (heardBy B reads .fed)) ∙ e in
+    record {
+      in-order = λ takes. taken-pending a p takes ∙ all;
+      whole = λ takes f. taken-whole a p takes ready f ∙ all;
+      ends = λ takes each h. writes-end a p takes ready each (omega (arith, ap length all));
+    }
+
+-- what a read has brought
+pub brought-exactly : BroughtExactly
+unfolding brought
+brought-exactly buffer =
+    record {
+      failed = λ n. refl;
+      ended = let z : min 0 (length buffer) ≡ 0 = omega arith in ap (λ (n : ℕ). pieceOf n buffer) z;
+      came = λ n some few.
+          let z : n ≡ min n (length buffer) = omega arith in
+          brought-bytes (pos n) buffer n (le-ltb n 0 (omega arith)) z ∙ some-bytes n buffer (λ e. omega arith);
+    }
+
+-- nothing was read yet: the text is not decided
+start-open : isDecided startIntake ≡ false
+unfolding isDecided
+start-open = refl
+
+-- every text, in whatever pieces
 pub prints-exactly : PrintsExactly
-prints-exactly room r text = ap (λ h. textOfAnswer (answerOf h blank)) (reads-exactly room r text) ∙ shipped-text text
+unfolding shipped
+prints-exactly B ps =
+    prints B (pieces ps ++ _) (shipped (joined ps))
+    (ap printed (pieces-heard (fed startIntake (B .tables)) ps ∙ reads-exactly (B .tables) (B .roomy) (joined ps)))
 
 -- a text that is decided
+pub stops-decided : StopsDecided
+unfolding shipped
+stops-decided B ps e more =
+    prints B (pieces ps) (shipped (joined ps ++ more))
+    (ap printed (stopped-heard (fed startIntake (B .tables)) ps more e ∙ reads-exactly (B .tables) (B .roomy) (joined ps ++ more)))
+
+-- a read that fails
+pub fails-plainly : FailsPlainly
+unfolding afterRead
+fails-plainly B ps e =
+    let f = fed startIntake (B .tables) in
+    let g = going-heard f ps start-open e in
+    prints B (pieces ps ++ (failure ∷ [])) badInput
+    (ap (λ (h : Hearing). printed (heard (h .fed))) (hears-one f true (pieces ps) (fedAll f (joined ps)) failure (g .comes))
+    ∙ ap printed (heard-bad (fedAll f (joined ps)) (g .undecided)))
+
+-- a text that reads on may still be bad, so its answer is not 1 whatever follows
 pub stops-at-once : StopsAtOnce
-stops-at-once room r text more d =
-    ap (λ h. textOfAnswer (answerOf h blank)) (decided-stays (takenIn room text) d [] ∙ decides-at-once room r text more d)
-    ∙ shipped-text _
+unfolding shipped
+stops-at-once B ps all = go (heardBy B (pieces ps) .more) refl
+  where
+    f : Fed
+    f = fed startIntake (B .tables)
+
+    go : (b : Bool) → heardBy B (pieces ps) .more ≡ b → b ≡ false
+    go false e = refl
+    go true e =
+        let g = going-heard f ps start-open e in
+        let spoilt : shipped (joined ps ++ noNumber) ≡ badInput =
+        ap printed (sym (reads-exactly (B .tables) (B .roomy) (joined ps ++ noNumber)) ∙ ap (λ (h : Fed). heard (endedOf h)) (sym (cut-anywhere f (joined ps) noNumber)) ∙ spoilt-bad (fedAll f (joined ps)) (g .undecided)) in
+        absurd (omega (arith, ap (λ (l : List ℕ). getD l 0 0) (sym spoilt ∙ all noNumber)))
+
+-- instances of the premises: buffers of zeros
+zeros : Buffers
+zeros =
+    record {
+      tables = emptyRoom;
+      roomy = omega (arith, length-replicate wholeRoom (pos 0));
+      bytes = replicate room 0;
+      fits = omega (arith, length-replicate {A = ℕ} room 0);
+    }
+
+-- no text at all: ten bytes, in three writes
+ten-bytes : Finished zeros (end ∷ []) (4 ∷ 5 ∷ 1 ∷ [])
+unfolding zeros afterRead endedOf heard isComplete answerOf codeOf pageOf openingOf wroteOf restOf isWritten
+ten-bytes = refl
+
+-- before its first byte a text is read on
+reads-on : heardBy zeros (pieces []) .more ≡ true
+reads-on = refl
+
+-- a start mode, then 65 ports, in two pieces: one more than there may be, so no read more is asked for
+tooManyPorts : List (List ℕ)
+tooManyPorts = (48 ∷ newline ∷ 54 ∷ []) ∷ (53 ∷ newline ∷ []) ∷ []
+
+stops-there : heardBy zeros (pieces tooManyPorts) .more ≡ false
+unfolding tooManyPorts zeros afterRead fedOf lineEnd tookOf countedOf shapeAt isDecided signedOf partAfter capped
+stops-there = refl
+
+-- and the answer is 1 whatever follows
+one-there : (more : List ℕ) → shipped (joined tooManyPorts ++ more) ≡ verdictLine 1
+unfolding tooManyPorts zeros afterRead fedOf lineEnd tookOf countedOf shapeAt isDecided isComplete heard signedOf partAfter capped shipped
+one-there more = ap printed (sym (reads-exactly emptyRoom (zeros .roomy) (joined tooManyPorts ++ more)) ∙ sym (stopped-heard (fed startIntake emptyRoom) tooManyPorts more stops-there))

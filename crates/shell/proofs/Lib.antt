@@ -1,3 +1,8 @@
 -- What is printed is what document 01 says.
+pub mod Parts
 pub mod Shipped
+pub mod Hearing
+pub mod Handing
+pub mod Pieces
+pub mod AtOnce
 pub mod Exact

@@ -35,7 +35,7 @@ compiled-text T rest = go (compileVerdict L) refl
     go (suc n) e = rw (e, compileAnswer, compileSlice) (append-nil (verdictLine (suc n)))
 
 -- what is printed of what is answered is what the definition says, whatever was read
-read-text : (r : Read Tables) → textOfAnswer (answerOf r blank) ≡ printed r
+pub read-text : (r : Read Tables) → textOfAnswer (answerOf r blank) ≡ printed r
 unfolding answerOf textOfAnswer
 read-text bad = refl
 read-text tooMany = refl

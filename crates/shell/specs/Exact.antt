@@ -1,26 +1,90 @@
--- What is promised of the shipped program between its reads and its writes: of the bytes that came, in whatever pieces, it prints
--- exactly what document 01 says of that text; and where it stops reading, it prints what 01 says whatever would have followed.
--- Assumes nothing. (What `read` brings and what becomes of a `write` no contract can say.)
+-- What is promised of the shipped program. Outside every contract are two calls, `read` and `write`, and their loops; so it is said of
+-- every sequence of pieces that reads may bring, and of every number of bytes that each write may take: the bytes handed to `write`, in
+-- order, are the text that document 01 gives; and no read is asked for after the text is decided. Assumes nothing.
+use Prim.Native.Nat.{ℕ, _≤_}
 use mathlib.Core.Path.{_≡_}
-use mathlib.Core.Bool.{true}
-use mathlib.Core.List.{List, _++_}
-use Prim.Native.Nat.{ℕ}
-use lib.IntN.{ℤ}
-use Rattle.text.specs.Shipped.{shipped}
-use Rattle.intake.specs.Line.{isDecided}
-use Rattle.intake.specs.Bytes.{endedOf}
+use mathlib.Core.Bool.{true, false}
+use mathlib.Core.List.{List, [], _∷_, _++_, map}
+use lib.IntN.{ℤ, pos, negsuc}
+use lib.ListN.{length, take}
+use Rattle.theory.specs.Lists.{Every}
+use Rattle.text.specs.Line.{room}
+use Rattle.text.specs.Shipped.{badInput, verdictLine, shipped}
 use Rattle.intake.specs.Heard.{heard}
-use Rattle.intake.specs.Exact.{Roomy, takenIn}
-use Rattle.shell.specs.Answer.{answerOf, blank, textOfAnswer}
+use Rattle.intake.specs.Exact.{Roomy}
+use Rattle.shell.specs.Answer.{Answered, answerOf, blank}
+use Rattle.shell.specs.Reading.{Brought, piece, end, failure, brought, Hearing, hears, silent}
+use Rattle.shell.specs.Writing.{Spread, pageOf, leftOf, takenOf, pendingOf, isWritten}
 
--- what is printed of a text that was read into this room
-abbrev pub printedOf : List ℤ → List ℕ → List ℕ
-printedOf room text = textOfAnswer (answerOf (heard (endedOf (takenIn room text))) blank)
+-- the buffers that the program works in: room for the largest program, and for any line
+pub record Buffers : Type 0 where
+  pub tables : List ℤ
+  pub roomy : Roomy tables
+  pub bytes : List ℕ
+  pub fits : room ≤ length bytes
 
--- a whole text is answered as the definition says
+-- reads that bring these pieces, one after the other, and the text that they are
+abbrev pub pieces : List (List ℕ) → List Brought
+pieces ps = map piece ps
+
+abbrev pub joined : List (List ℕ) → List ℕ
+joined [] = []
+joined (p ∷ ps) = p ++ joined ps
+
+module _ (B : Buffers) (reads : List Brought) where
+  -- what is known after these reads, what is answered to it, and the first page
+  abbrev pub heardBy : Hearing
+  heardBy = hears (silent (B .tables)) reads
+
+  abbrev pub answerTo : Answered
+  answerTo = answerOf (heard (heardBy .fed)) blank
+
+  abbrev pub firstPage : Spread
+  firstPage = pageOf answerTo false 0 (B .bytes)
+
+  -- with so many bytes taken by each write: what was handed on and taken, in order; what is still to come; nothing is
+  abbrev pub handed : List ℕ → List ℕ
+  handed takes = takenOf answerTo firstPage takes
+
+  abbrev pub toCome : List ℕ → List ℕ
+  toCome takes = pendingOf answerTo (leftOf answerTo firstPage takes)
+
+  abbrev pub Finished : List ℕ → Type 0
+  Finished takes = isWritten (leftOf answerTo firstPage takes) ≡ true
+
+  -- these reads have the program print a text: whatever writes take, it is handed on from its first byte on, in order; whole where the
+  -- program ends; and it ends, where each write takes a byte at least, after no more writes than the text has bytes
+  pub record Prints (text : List ℕ) : Type 0 where
+    pub in-order : (takes : List ℕ) → handed takes ++ toCome takes ≡ text
+    pub whole : (takes : List ℕ) → Finished takes → handed takes ≡ text
+    pub ends : (takes : List ℕ) → Every (λ (n : ℕ). 1 ≤ n) takes → length text ≤ length takes → Finished takes
+
+-- what a read has brought, by its answer: below 0 it has failed, 0 is the end of the input, else so many bytes of the buffer came
+pub record ReadSays (buffer : List ℕ) : Type 0 where
+  pub failed : (n : ℕ) → brought (negsuc n) buffer ≡ failure
+  pub ended : brought (pos 0) buffer ≡ end
+  pub came : (n : ℕ) → 1 ≤ n → n ≤ length buffer → brought (pos n) buffer ≡ piece (take n buffer)
+
+abbrev pub BroughtExactly : Type 0
+BroughtExactly = (buffer : List ℕ) → ReadSays buffer
+
+-- a text, in whatever pieces reads bring it, is answered as document 01 says
 abbrev pub PrintsExactly : Type 0
-PrintsExactly = (room : List ℤ) → Roomy room → (text : List ℕ) → printedOf room text ≡ shipped text
+PrintsExactly = (B : Buffers) (ps : List (List ℕ)) → Prints B (pieces ps ++ (end ∷ [])) (shipped (joined ps))
 
--- a text that is decided is answered as if it had been read on
+-- where a read fails before the text is decided, what is missing of it is not known: `bad input`
+abbrev pub FailsPlainly : Type 0
+FailsPlainly =
+    (B : Buffers) (ps : List (List ℕ)) → heardBy B (pieces ps) .more ≡ true → Prints B (pieces ps ++ (failure ∷ [])) badInput
+
+-- where the program reads no more, the text is decided: it is answered as document 01 says whatever would have followed
+abbrev pub StopsDecided : Type 0
+StopsDecided =
+    (B : Buffers) (ps : List (List ℕ)) → heardBy B (pieces ps) .more ≡ false
+    → (more : List ℕ) → Prints B (pieces ps) (shipped (joined ps ++ more))
+
+-- "1 at once": once the answer is 1 whatever follows, no read is asked for
 abbrev pub StopsAtOnce : Type 0
-StopsAtOnce = (room : List ℤ) → Roomy room → (text more : List ℕ) → isDecided (takenIn room text .intake) ≡ true → printedOf room text ≡ shipped (text ++ more)
+StopsAtOnce =
+    (B : Buffers) (ps : List (List ℕ)) → ((more : List ℕ) → shipped (joined ps ++ more) ≡ verdictLine 1)
+    → heardBy B (pieces ps) .more ≡ false

@@ -1,3 +1,5 @@
--- What the shipped program answers to what it has read, what is printed of it, and what is promised.
+-- What the shipped program answers to what it has read, what it does between its reads and writes, and what is promised.
 pub mod Answer
+pub mod Reading
+pub mod Writing
 pub mod Exact

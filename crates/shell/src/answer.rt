@@ -4,7 +4,8 @@ ghost use Rattle.intake.specs.Line.{fed};
 ghost use Rattle.intake.specs.Heard.{tablesIn, heard};
 ghost use Rattle.code.specs.Compile.{compileAnswer, compileSlice};
 ghost use Rattle.compiler.specs.Listed.{compiling};
-ghost use Rattle.shell.specs.Answer.{answered, answerOf};
+ghost use Rattle.text.specs.Shipped.{printed};
+ghost use Rattle.shell.specs.Answer.{blank, answered, answerOf, textOfAnswer};
 use code::Compiled;
 use intake::state::Intake;
 use intake::tables::table;
@@ -39,7 +40,9 @@ fn compiled(i: Intake, room: &[i32], code: &mut [u32]) -> Compiled
 
 // Of a text that is complete, compiling's answer; of the others a count was out of its limit, or the text is bad.
 pub fn answer(i: Intake, room: &[i32], code: &mut [u32]) -> Shown
-    ensures { λ r. ⌜ answered r (now (code .exit)) ≡ answerOf (heard (fed i (now (room .entry)))) (now (code .entry)) ⌝ }
+    requires { ⌜ now code ≡ blank ⌝ }
+    ensures exact { λ r. ⌜ answered r (now (code .exit)) ≡ answerOf (heard (fed i (now (room .entry)))) blank ⌝ }
+    ensures says { λ r. ⌜ textOfAnswer (answered r (now (code .exit))) ≡ printed (heard (fed i (now (room .entry)))) ⌝ }
 {
     if i.complete() {
         let c = compiled(i, room, code);

@@ -1,66 +1,35 @@
-// What is printed. Each function answers whether all of it was written; after a write that fails nothing follows.
-ghost use mathlib.Core.Path.{_≡_};
-ghost use lib.ListN.{take};
+// What is printed, page by page, in as many writes as it takes. After a write that fails nothing follows.
+ghost use Prim.Native.Nat.{_≤_};
+ghost use mathlib.Core.Bool.{false};
+ghost use lib.ListN.{length};
+ghost use Rattle.text.specs.Line.{room};
+ghost use Rattle.shell.specs.Answer.{answered};
+ghost use Rattle.shell.specs.Writing.{spread, pageOf, restOf, Printed};
 use crate::answer::Shown;
-use cells::limits::Program;
-use cells::parts::least;
-use cells::parts::words;
-use text::listing;
-use text::page;
+use crate::pages;
+use crate::pages::Sheet;
 
-// The first n bytes, as many as there are.
-fn first(bytes: &[u8], n: usize) -> &[u8]
-    ensures { λ r. ⌜ now r ≡ take n (now (bytes .entry)) ⌝ }
+// One write of what is left of a page: how many bytes it took, none where it failed.
+fn hand(output: i32, sheet: Sheet, buffer: &[u8]) -> usize
+    ensures { λ r. ⌜ r ≤ length (restOf (spread sheet (now (buffer .entry)))) ⌝ }
 {
-    let end = least(n, bytes.len());
-    &bytes[..end]
+    let bytes = pages::rest(sheet, buffer);
+    io::count(libc::write(output, bytes), bytes)
 }
 
-// These bytes, in as many writes as it takes.
-fn put(output: i32, bytes: &[u8]) -> bool {
-    let mut done = 0;
-    while done < bytes.len() {
-        let rest = &bytes[done..];
-        let n = io::count(libc::write(output, rest), rest);
+// All of an answer: whether all of it was written.
+pub fn print(output: i32, shown: Shown, code: &[u32], buffer: &mut [u8]) -> bool
+    requires { ⌜ room ≤ length (now buffer) ⌝ }
+    ensures { λ r. ⌜ Printed (answered shown (now (code .entry)))
+        (pageOf (answered shown (now (code .entry))) false 0 (now (buffer .entry))) r (now (buffer .exit)) ⌝ }
+{
+    let mut sheet = pages::page(shown, false, 0, code, buffer);
+    while 0 < pages::rest(sheet, buffer).len() {
+        let n = hand(output, sheet, buffer);
         if n == 0 {
             return false;
         }
-        done += n;
+        sheet = pages::wrote(shown, sheet, n, code, buffer);
     }
     true
-}
-
-// The number on a line.
-fn verdict(output: i32, number: usize) -> bool {
-    let line = listing::verdict_line(number);
-    let bytes = line.bytes;
-    put(output, first(&bytes, line.len))
-}
-
-// The lines of this code, a page at a time.
-fn pages(output: i32, code: &[u32], buffer: &mut [u8]) -> bool {
-    let n = code.len() / Program::WORDS;
-    let mut from = 0;
-    while from < n {
-        let page = page::fill(code, from, buffer);
-        if page.next <= from {
-            return false;
-        }
-        if !put(output, first(buffer, page.len)) {
-            return false;
-        }
-        from = page.next;
-    }
-    true
-}
-
-// All of an answer.
-pub fn print(output: i32, shown: Shown, code: &[u32], buffer: &mut [u8]) -> bool {
-    if shown.bad {
-        return put(output, b"bad input\n");
-    }
-    if !verdict(output, shown.number) {
-        return false;
-    }
-    pages(output, words(code, shown.length), buffer)
 }

@@ -1,15 +1,23 @@
 // The input, read piece by piece until it ends or is decided.
+ghost use mathlib.Core.Path.{_≡_};
+ghost use mathlib.Core.Bool.{false};
+ghost use Rattle.intake.specs.Line.{fed};
+ghost use Rattle.intake.specs.Exact.{Roomy};
+ghost use Rattle.shell.specs.Reading.{brought, hearing, afterRead, AfterSome};
 use intake::state::Intake;
 
-// After one read: what is known of the text, and whether there is more to read.
-struct Piece {
-    intake: Intake,
-    more: bool,
+// After one read: what is known of the text, and whether the program reads on.
+pub struct Piece {
+    pub intake: Intake,
+    pub more: bool,
 }
 
-// One read. A read that fails leaves the text bad: what is missing of it is not known.
-fn read_some(input: i32, buffer: &mut [u8], i: Intake, room: &mut [i32]) -> Piece {
-    let got = libc::read(input, buffer);
+// What a read has brought that answered `got`: a failure leaves the text bad, since what is missing of it is not known; no byte is its
+// end; else so many bytes, after which it is read on unless the text is decided.
+fn took(i: Intake, got: isize, buffer: &[u8], room: &mut [i32]) -> Piece
+    ensures { λ r. ⌜ hearing (fed (r .intake) (now (room .exit))) (r .more)
+        ≡ afterRead (fed i (now (room .entry))) (brought got (now (buffer .entry))) ⌝ }
+{
     if got < 0 {
         return Piece {
             intake: i.as_bad(),
@@ -17,20 +25,34 @@ fn read_some(input: i32, buffer: &mut [u8], i: Intake, room: &mut [i32]) -> Piec
         };
     }
     let n = io::count(got, buffer);
+    if n == 0 {
+        let last = i.ended(room);
+        return Piece {
+            intake: last,
+            more: false,
+        };
+    }
     let intake = i.feed_all(&buffer[..n], room);
-    let more = (0 < n) & !intake.decided();
-    Piece { intake, more }
+    let decided = intake.decided();
+    Piece {
+        intake,
+        more: !decided,
+    }
 }
 
-// The whole input. An input of more pieces than can be counted is no text.
-pub fn heard(input: i32, buffer: &mut [u8], room: &mut [i32]) -> Intake {
+// The whole input. One of more pieces than can be counted is as one that fails.
+pub fn heard(input: i32, buffer: &mut [u8], room: &mut [i32]) -> Intake
+    requires { ⌜ Roomy (now room) ⌝ }
+    ensures { λ r. ⌜ AfterSome (now (room .entry)) (hearing (fed r (now (room .exit))) false) ⌝ }
+{
     let mut intake = Intake::new();
     let mut turns = u64::MAX;
     while turns > 0 {
-        let next = read_some(input, buffer, intake, room);
+        let got = libc::read(input, buffer);
+        let next = took(intake, got, buffer, room);
         intake = next.intake;
         if !next.more {
-            return intake.ended(room);
+            return intake;
         }
         turns -= 1;
     }

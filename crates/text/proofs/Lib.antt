@@ -12,6 +12,7 @@ pub mod Said
 pub mod Pages
 pub mod Laying
 pub mod Filling
+pub mod PageEnd
 pub mod Fixed
 pub mod Magnitude
 pub mod Parts

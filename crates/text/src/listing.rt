@@ -6,7 +6,7 @@ ghost use Rattle.code.specs.Op.{decode};
 ghost use Rattle.text.specs.Listing.{spaced, lineOf};
 ghost use Rattle.text.specs.Line.{room, Holds, Appended};
 ghost use Rattle.text.specs.Said.{mostMnemonic, mostSaid, saidOf, saidWhere};
-ghost use Rattle.text.specs.Shipped.{verdictLine};
+ghost use Rattle.text.specs.Shipped.{badInput, verdictLine};
 use crate::line::Line;
 use code::numbers;
 
@@ -72,4 +72,11 @@ pub fn verdict_line(n: usize) -> Line
     ensures { λ r. ⌜ Holds r (verdictLine n) ⌝ }
 {
     Line::new().number(n).push(b'\n')
+}
+
+// The line for a text that is no program.
+pub fn bad_line() -> Line
+    ensures { λ r. ⌜ Holds r badInput ⌝ }
+{
+    Line::new().word(b"bad input\n")
 }

@@ -30,7 +30,7 @@ fn line_at(code: &[u32], i: usize) -> Line
 }
 
 // A line laid at a place of a slice; the place behind it is returned.
-fn lay(out: &mut [u8], at: usize, line: Line) -> usize
+pub fn lay(out: &mut [u8], at: usize, line: Line) -> usize
     requires { ⌜ at + room ≤ length (now out) ⌝ }
     requires { ⌜ line .len ≤ room ⌝ }
     ensures { λ r. ⌜ Laid (now (out .entry)) (now (out .exit)) at line r ⌝ }

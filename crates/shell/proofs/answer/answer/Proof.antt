@@ -1,8 +1,15 @@
 -- `shell::answer::answer` meets its contract: a complete text is compiled; of the others a count was out of its limit, or the text is
 -- bad. Assumes nothing.
-use mathlib.Core.Path.{refl}
+use Prim.Native.Nat.{ℕ}
+use mathlib.Core.Path.{_≡_, refl, ap, _∙_}
+use mathlib.Core.List.{List}
+use Rattle.program.specs.Tables.{Tables}
+use Rattle.text.specs.Input.{Read}
+use Rattle.text.specs.Shipped.{printed}
+use Rattle.intake.specs.Line.{fed}
 use Rattle.intake.specs.Heard.{heard}
-use Rattle.shell.specs.Answer.{answerOf}
+use Rattle.shell.specs.Answer.{Answered, blank, answerOf, textOfAnswer}
+use Rattle.shell.proofs.Shipped.{read-text}
 use borrow.Author.Needs.{needs}
 use Rattle.shell.proofs.answer.answer.Statement.{statement}
 use Rattle.shell.proofs.answer.answer.Tie as tie
@@ -16,17 +23,31 @@ compiled-requires c κs = search needs
 same-length : tie.Need-same-length
 same-length c = search needs
 
+-- into blank code it is the answer that document 01 has printed
+into-blank : (r : Read Tables) (a : Answered) (code : List ℕ) → code ≡ blank → a ≡ answerOf r code
+    → (a ≡ answerOf r blank) × (textOfAnswer a ≡ printed r)
+into-blank r a code e f = let g = f ∙ ap (answerOf r) e in (g, ap textOfAnswer g ∙ read-text r)
+
 returns : tie.Need-returns
 unfolding heard answerOf
-returns c = simp (← c .before .before .before .before .before .complete .ensures, c .before .before .before .before .if1 .taken, c .before .before .compiled .ensures .0, c .before .before .compiled .ensures .1) refl
+returns c =
+    let s = c .before .before .before .before .before .before .before in
+    into-blank (heard (fed (s .args .i) (s .args .room .now))) _ (s .args .code .now) (s .pre)
+    (simp (← c .before .before .before .before .before .complete .ensures, c .before .before .before .before .if1 .taken, c .before .before .compiled .ensures .0, c .before .before .compiled .ensures .1) refl)
 
 returns-2 : tie.Need-returns-2
 unfolding heard answerOf
-returns-2 c = simp (← c .before .before .complete .ensures, c .before .if1 .left, c .if2 .taken) refl
+returns-2 c =
+    let s = c .before .before .before .before in
+    into-blank (heard (fed (s .args .i) (s .args .room .now))) _ (s .args .code .now) (s .pre)
+    (simp (← c .before .before .complete .ensures, c .before .if1 .left, c .if2 .taken) refl)
 
 returns-3 : tie.Need-returns-3
 unfolding heard answerOf
-returns-3 c = simp (← c .before .before .complete .ensures, c .before .if1 .left, c .if2 .left) refl
+returns-3 c =
+    let s = c .before .before .before .before in
+    into-blank (heard (fed (s .args .i) (s .args .room .now))) _ (s .args .code .now) (s .pre)
+    (simp (← c .before .before .complete .ensures, c .before .if1 .left, c .if2 .left) refl)
 
 pub answer-spec : {M : Type 1} → statement M
 answer-spec =

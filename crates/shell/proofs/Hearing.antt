@@ -1,0 +1,53 @@
+-- What reads come to: what one of them has brought, one read more, and no read more. Assumes nothing.
+use mathlib.Core.Path.{_≡_, refl, sym, ap, _∙_}
+use mathlib.Core.Bool.{Bool, true, false}
+use mathlib.Core.List.{List, [], _∷_, _++_}
+use Prim.Native.Nat.{ℕ, zero, suc}
+use lib.IntN.{ℤ, pos}
+use lib.Signed.{ltZ}
+use lib.ListN.{length, take}
+use Rattle.io.specs.Counts.{clamped}
+use Rattle.theory.proofs.Conditions.{cond-yes, cond-no}
+use Rattle.theory.proofs.Bools.{clash}
+use Rattle.intake.specs.Line.{Fed}
+use Rattle.shell.specs.Reading.{Brought, piece, failure, pieceOf, brought, Hearing, hearing, afterRead, hears, silent, AfterSome}
+
+-- what a read has brought: it failed, the input has ended, or so many bytes came
+pub brought-failure : (got : ℤ) (buffer : List ℕ) → ltZ got (pos 0) ≡ true → brought got buffer ≡ failure
+unfolding brought
+brought-failure got buffer e = cond-yes failure (pieceOf (clamped got (length buffer)) buffer) e
+
+pub brought-bytes : (got : ℤ) (buffer : List ℕ) (n : ℕ) → ltZ got (pos 0) ≡ false → n ≡ clamped got (length buffer)
+    → brought got buffer ≡ pieceOf n buffer
+unfolding brought
+brought-bytes got buffer n e h =
+    cond-no failure (pieceOf (clamped got (length buffer)) buffer) e ∙ ap (λ (k : ℕ). pieceOf k buffer) (sym h)
+
+pub some-bytes : (n : ℕ) (buffer : List ℕ) → (n ≡ 0 → ⊥) → pieceOf n buffer ≡ piece (take n buffer)
+some-bytes zero buffer h = absurd (h refl)
+some-bytes (suc n) buffer h = refl
+
+-- one read more
+pub hears-one : (f : Fed) (more : Bool) (reads : List Brought) (g : Fed) (b : Brought)
+    → hears (hearing f more) reads ≡ hearing g true → hears (hearing f more) (reads ++ (b ∷ [])) ≡ afterRead g b
+hears-one f more [] g b e = ap (λ (h : Hearing). hears h (b ∷ [])) e
+hears-one f true (x ∷ xs) g b e = hears-one (afterRead f x .fed) (afterRead f x .more) xs g b e
+hears-one f false (x ∷ xs) g b e = clash {b = false} (ap (λ (h : Hearing). h .more) e) refl
+
+-- before the first
+pub some-none : (room : List ℤ) → AfterSome room (silent room)
+some-none room = record { reads = []; comes = refl }
+
+-- after one more, whatever it brought
+pub some-more : (room : List ℤ) (f g : Fed) (more m : Bool) (b : Brought)
+    → AfterSome room (hearing f true) → hearing g more ≡ afterRead f b → more ≡ m → AfterSome room (hearing g m)
+some-more room f g more m b s e h =
+    record {
+      reads = s .reads ++ (b ∷ []);
+      comes = hears-one (silent room .fed) true (s .reads) f b (s .comes) ∙ sym e ∙ ap (hearing g) h;
+    }
+
+-- a program that does not read on stays as it is
+pub hears-still : (f : Fed) (reads : List Brought) → hears (hearing f false) reads ≡ hearing f false
+hears-still f [] = refl
+hears-still f (b ∷ bs) = refl

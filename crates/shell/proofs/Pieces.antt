@@ -1,0 +1,84 @@
+-- Pieces of a text that reads bring one after the other: what is heard of them is what is heard of the text. Assumes nothing.
+use Prim.Native.Nat.{ℕ}
+use mathlib.Core.Path.{_≡_, refl, sym, ap, _∙_}
+use mathlib.Core.Bool.{Bool, true, false, not}
+use mathlib.Core.List.{List, [], _∷_, _++_, append-assoc}
+use Rattle.theory.proofs.Bools.{clash}
+use Rattle.intake.specs.Line.{Fed, isDecided}
+use Rattle.intake.specs.Bytes.{fedAll, endedOf}
+use Rattle.intake.specs.Heard.{heard}
+use Rattle.intake.proofs.Cut.{cut-anywhere}
+use Rattle.intake.proofs.Decided.{decided-stays}
+use Rattle.shell.specs.Reading.{Brought, end, Hearing, hearing, afterRead, hears}
+use Rattle.shell.specs.Exact.{pieces, joined}
+use Rattle.shell.proofs.Hearing.{hears-still}
+
+-- a piece and what follows it are heard as one text
+cut-heard : (f : Fed) (p rest : List ℕ) → heard (endedOf (fedAll (fedAll f p) rest)) ≡ heard (endedOf (fedAll f (p ++ rest)))
+cut-heard f p rest = ap (λ (g : Fed). heard (endedOf g)) (cut-anywhere f p rest)
+
+-- a text that is decided stays so, whatever reads would bring
+still-heard : (f : Fed) → isDecided (f .intake) ≡ true → (reads : List Brought) (rest : List ℕ)
+    → heard (hears (hearing f false) reads .fed) ≡ heard (endedOf (fedAll f rest))
+still-heard f d reads rest = ap (λ (h : Hearing). heard (h .fed)) (hears-still f reads) ∙ sym (decided-stays f d rest)
+
+-- all pieces, then the end
+pub pieces-heard : (f : Fed) (ps : List (List ℕ))
+    → heard (hears (hearing f true) (pieces ps ++ (end ∷ [])) .fed) ≡ heard (endedOf (fedAll f (joined ps)))
+unfolding afterRead
+pieces-heard f [] = refl
+pieces-heard f (p ∷ ps) = go (isDecided (fedAll f p .intake)) refl (pieces-heard (fedAll f p) ps) ∙ cut-heard f p (joined ps)
+  where
+    g : Fed
+    g = fedAll f p
+
+    go : (b : Bool) → isDecided (g .intake) ≡ b
+        → heard (hears (hearing g true) (pieces ps ++ (end ∷ [])) .fed) ≡ heard (endedOf (fedAll g (joined ps)))
+        → heard (hears (hearing g (not b)) (pieces ps ++ (end ∷ [])) .fed) ≡ heard (endedOf (fedAll g (joined ps)))
+    go true d more = still-heard g d (pieces ps ++ (end ∷ [])) (joined ps)
+    go false d more = more
+
+-- pieces after which the program reads no more, and whatever would have followed
+pub stopped-heard : (f : Fed) (ps : List (List ℕ)) (rest : List ℕ) → hears (hearing f true) (pieces ps) .more ≡ false
+    → heard (hears (hearing f true) (pieces ps) .fed) ≡ heard (endedOf (fedAll f (joined ps ++ rest)))
+unfolding afterRead
+stopped-heard f [] rest e = clash {b = true} refl e
+stopped-heard f (p ∷ ps) rest e =
+    go (isDecided (fedAll f p .intake)) refl e (stopped-heard (fedAll f p) ps rest)
+    ∙ cut-heard f p (joined ps ++ rest)
+    ∙ ap (λ (l : List ℕ). heard (endedOf (fedAll f l))) (sym (append-assoc p (joined ps) rest))
+  where
+    g : Fed
+    g = fedAll f p
+
+    go : (b : Bool) → isDecided (g .intake) ≡ b → hears (hearing g (not b)) (pieces ps) .more ≡ false
+        → (hears (hearing g true) (pieces ps) .more ≡ false → heard (hears (hearing g true) (pieces ps) .fed) ≡ heard (endedOf (fedAll g (joined ps ++ rest))))
+        → heard (hears (hearing g (not b)) (pieces ps) .fed) ≡ heard (endedOf (fedAll g (joined ps ++ rest)))
+    go true d e more = still-heard g d (pieces ps) (joined ps ++ rest)
+    go false d e more = more e
+
+-- pieces after which it reads on: the text so far, not decided
+pub record Going (f : Fed) (ps : List (List ℕ)) : Type 0 where
+  pub comes : hears (hearing f true) (pieces ps) ≡ hearing (fedAll f (joined ps)) true
+  pub undecided : isDecided (fedAll f (joined ps) .intake) ≡ false
+
+pub going-heard : (f : Fed) (ps : List (List ℕ)) → isDecided (f .intake) ≡ false → hears (hearing f true) (pieces ps) .more ≡ true → Going f ps
+unfolding afterRead
+going-heard f [] d e = record { comes = refl; undecided = d }
+going-heard f (p ∷ ps) d e = go (isDecided (fedAll f p .intake)) refl e (going-heard (fedAll f p) ps)
+  where
+    g : Fed
+    g = fedAll f p
+
+    joins : fedAll g (joined ps) ≡ fedAll f (p ++ joined ps)
+    joins = cut-anywhere f p (joined ps)
+
+    go : (b : Bool) → isDecided (g .intake) ≡ b → hears (hearing g (not b)) (pieces ps) .more ≡ true
+        → (isDecided (g .intake) ≡ false → hears (hearing g true) (pieces ps) .more ≡ true → Going g ps) → Going f (p ∷ ps)
+    go true d e more = clash {b = false} (ap (λ (h : Hearing). h .more) (sym (hears-still g (pieces ps))) ∙ e) refl
+    go false d e more =
+        let m = more d e in
+        record {
+          comes = (λ j. hears (hearing g (not (d j))) (pieces ps)) ∙ m .comes ∙ ap (λ (h : Fed). hearing h true) joins;
+          undecided = ap (λ (h : Fed). isDecided (h .intake)) (sym joins) ∙ m .undecided;
+        }
