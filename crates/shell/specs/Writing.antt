@@ -4,7 +4,7 @@ use mathlib.Core.Path.{_≡_}
 use mathlib.Core.Bool.{Bool, true, cond}
 use mathlib.Core.List.{List, [], _∷_, _++_}
 use lib.Dec.{eqb, ltb}
-use lib.ListN.{length, take, drop}
+use lib.ListN.{length, take, drop, replicate}
 use Rattle.cells.specs.Limits.{wordsEach}
 use Rattle.code.specs.Op.{Op, instructions}
 use Rattle.text.specs.Listing.{linesFrom}
@@ -13,6 +13,13 @@ use Rattle.text.specs.Shipped.{badInput, verdictLine}
 use Rattle.shell.specs.Answer.{Answered}
 use Rattle.shell.specs.declared.answer.Shown.{Shown}
 use Rattle.shell.specs.declared.pages.Sheet.{Sheet}
+
+-- the buffer that pieces are read into and pages are laid in: so many bytes, 0 at first
+abbrev pub bufferSize : ℕ
+bufferSize = 4096
+
+abbrev pub emptyBuffer : List ℕ
+emptyBuffer = replicate bufferSize 0
 
 -- the first line of an answer
 unfoldable pub openingOf : Shown → List ℕ

@@ -2,9 +2,10 @@
 ghost use Prim.Native.Nat.{_≤_};
 ghost use mathlib.Core.Path.{_≡_};
 ghost use mathlib.Core.Bool.{true};
-ghost use lib.ListN.{length, replicate};
+ghost use lib.ListN.{length};
 ghost use Rattle.text.specs.Line.{room};
 ghost use Rattle.shell.specs.Answer.{blank};
+ghost use Rattle.shell.specs.Writing.{emptyBuffer};
 use cells::limits::Program;
 use intake::shape::ROOM;
 use text::line::Line;
@@ -36,7 +37,7 @@ pub fn blank_code() -> [u32; CODE]
 
 // Room for a piece of the input, and for any line of a listing.
 pub fn empty_buffer() -> [u8; BUFFER]
-    ensures { λ r. ⌜ room ≤ length r ⌝ }
+    ensures { λ r. ⌜ (r ≡ emptyBuffer) × (room ≤ length r) ⌝ }
 {
     [0u8; BUFFER]
 }
