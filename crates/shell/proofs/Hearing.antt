@@ -3,7 +3,9 @@ use mathlib.Core.Path.{_≡_, refl, sym, ap, _∙_}
 use mathlib.Core.Bool.{Bool, true, false}
 use mathlib.Core.List.{List, [], _∷_, _++_}
 use Prim.Native.Nat.{ℕ, zero, suc}
-use lib.IntN.{ℤ, pos}
+use native.Mathlib.Omega.{arith}
+use borrow.Author.Tests.{ltb-true}
+use lib.IntN.{ℤ, pos, negsuc}
 use lib.Signed.{ltZ}
 use lib.ListN.{length, take}
 use Rattle.io.specs.Counts.{clamped}
@@ -16,6 +18,10 @@ use Rattle.shell.specs.Reading.{Brought, piece, failure, pieceOf, brough
 pub brought-failure : (got : ℤ) (buffer : List ℕ) → ltZ got (pos 0) ≡ true → brought got buffer ≡ failure
 unfolding brought
 brought-failure got buffer e = cond-yes failure (pieceOf (clamped got (length buffer)) buffer) e
+
+pub failure-none : (got : ℤ) (most : ℕ) → ltZ got (pos 0) ≡ true → clamped got most ≡ 0
+failure-none (pos n) most e = absurd (omega (arith, ltb-true n 0 e))
+failure-none (negsuc n) most e = refl
 
 pub brought-bytes : (got : ℤ) (buffer : List ℕ) (n : ℕ) → ltZ got (pos 0) ≡ false → n ≡ clamped got (length buffer)
     → brought got buffer ≡ pieceOf n buffer

@@ -18,21 +18,21 @@ fn took(i: Intake, got: isize, buffer: &[u8], room: &mut [i32]) -> Piece
     ensures { λ r. ⌜ hearing (fed (r .intake) (now (room .exit))) (r .more)
         ≡ afterRead (fed i (now (room .entry))) (brought got (now (buffer .entry))) ⌝ }
 {
+    let n = io::count(got, buffer);
+    let intake = i.feed_all(&buffer[..n], room);
     if got < 0 {
         return Piece {
-            intake: i.as_bad(),
+            intake: intake.as_bad(),
             more: false,
         };
     }
-    let n = io::count(got, buffer);
     if n == 0 {
-        let last = i.ended(room);
+        let last = intake.ended(room);
         return Piece {
             intake: last,
             more: false,
         };
     }
-    let intake = i.feed_all(&buffer[..n], room);
     let decided = intake.decided();
     Piece {
         intake,
