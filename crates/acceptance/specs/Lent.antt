@@ -2,7 +2,8 @@
 use Prim.Native.Nat.{ℕ}
 use mathlib.Core.List.{List}
 use lib.IntN.{ℤ}
-use Rattle.theory.specs.Verdict.{orElse, after}
+use Rattle.theory.specs.Verdict.{acceptedNumber, orElse, after}
+use Rattle.cells.specs.Refusals.{windowsRefused}
 use Rattle.program.specs.Tables.{Tables}
 use Rattle.lent.specs.Tables.{lentVerdict}
 use Rattle.suppliers.specs.Windows.{Windowed, windowsBad}
@@ -19,7 +20,7 @@ asked T W S s = record { tables = T; windows = W; part = S; supplier = s }
 
 -- 2 to 11 of the tables, then 12
 unfoldable pub shapedVerdict : Windowed → ℕ
-shapedVerdict L = after (lentVerdict (L .tables)) (orElse (windowsBad L) 12 0)
+shapedVerdict L = after (lentVerdict (L .tables)) (orElse (windowsBad L) windowsRefused acceptedNumber)
 
 -- an answer without a place
 abbrev pub refusal : ℕ → Answer

@@ -10,6 +10,7 @@ ghost use Rattle.acceptance.specs.Lent.{windowed, asked, shapedVerdict, 
 use cells::columns::schedule;
 use cells::columns::window;
 use cells::limits::Program;
+use cells::refusals;
 use cells::table;
 use fields::slices;
 use layout::counts;
@@ -85,13 +86,13 @@ fn shaped_verdict(
         switches,
         start,
     );
-    if 0 < number {
+    if refusals::ACCEPTED < number {
         return number;
     }
     if window_rows::first_wrong_window(modes, windows) < windows.len() / window::WIDTH {
-        return 12;
+        return refusals::WINDOWS;
     }
-    0
+    refusals::ACCEPTED
 }
 
 // An answer without a place.
@@ -137,7 +138,7 @@ pub fn windows_verdict(
         switches,
         windows,
     ) {
-        return 1;
+        return refusals::SHAPE;
     }
     shaped_verdict(
         ports,
@@ -190,7 +191,7 @@ pub fn supplier_verdict(
         windows,
     );
     if shape | slices::bad_slice(part, schedule::WIDTH, Program::PART) {
-        return refusal(1);
+        return refusal(refusals::SHAPE);
     }
     let number = shaped_verdict(
         ports,
@@ -206,7 +207,7 @@ pub fn supplier_verdict(
         start,
         windows,
     );
-    if 0 < number {
+    if refusals::ACCEPTED < number {
         return refusal(number);
     }
     let own = table::index(supplier);
@@ -220,7 +221,7 @@ pub fn supplier_verdict(
         part,
         own,
     ) {
-        return refusal(13);
+        return refusal(refusals::SCHEDULE);
     }
     let sensors = counts::sensors(ports);
     every_mode::answer(

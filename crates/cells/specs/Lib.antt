@@ -1,4 +1,5 @@
--- Numbers of tables, readings, limits.
+-- Numbers of tables, readings, limits, refusal numbers.
 pub mod Cell
 pub mod Reading
 pub mod Limits
+pub mod Refusals

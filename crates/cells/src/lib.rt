@@ -1,7 +1,9 @@
-// The leaf: numbers of lent tables by row and named column, parts of a slice, the four kinds, readings, limits. Every access is total.
+// The leaf: numbers of lent tables by row and named column, parts of a slice, the four kinds, readings, limits, refusal numbers.
+// Every access is total.
 pub mod columns;
 pub mod kinds;
 pub mod limits;
 pub mod parts;
 pub mod reading;
+pub mod refusals;
 pub mod table;

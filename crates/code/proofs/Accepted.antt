@@ -8,6 +8,7 @@ use native.Mathlib.Omega.{arith}
 use lib.ListN.{length}
 use borrow.Author.Tests.{eqb-true}
 use Rattle.theory.specs.Lists.{Every}
+use Rattle.theory.specs.Verdict.{acceptedNumber}
 use Rattle.theory.proofs.Lists.{every-those}
 use Rattle.program.specs.Tables.{Tables, modeCount, invocationCount, updateCount, switchCount}
 use Rattle.program.specs.Units.{units, Multiple}
@@ -31,7 +32,7 @@ whole-row T m w =
       switches = every-those _ _ (switchRow T) (switchCount T) 0 (λ i l h q. div-mul-cancel _ (w _ (inr (inr (i, omega arith, (eqb-true _ _ q, refl))))));
     }
 
-module _ (T : Tables) (a : programVerdict T ≡ 0) where
+module _ (T : Tables) (a : programVerdict T ≡ acceptedNumber) where
   -- the modes of an accepted program are whole
   pub accepted-modes : WholeUnits (programOf T)
   accepted-modes m h =

@@ -2,6 +2,7 @@
 -- Assumes nothing; of what a refusal leaves, that the number is not 0.
 use Prim.Native.Nat.{ℕ, zero, suc}
 use mathlib.Core.Path.{_≡_, refl, sym, _∙_}
+use Rattle.theory.specs.Verdict.{acceptedNumber}
 use Rattle.code.specs.Compile.{Compiling, compileVerdict, compileAnswer, compileSlice}
 
 module _ (L : Compiling) where
@@ -14,11 +15,11 @@ module _ (L : Compiling) where
       go (suc n) e = rw (e, compileAnswer)
 
   -- so none is answered only where none is
-  pub compile-passes : compileAnswer L .number ≡ 0 → compileVerdict L ≡ 0
+  pub compile-passes : compileAnswer L .number ≡ acceptedNumber → compileVerdict L ≡ acceptedNumber
   compile-passes e = sym compile-number ∙ e
 
   -- refused: nothing is written, and the length is 0
-  pub compile-refused : (compileAnswer L .number ≡ 0 → ⊥) → (compileSlice L ≡ L .slice) × (compileAnswer L .length ≡ 0)
+  pub compile-refused : (compileAnswer L .number ≡ acceptedNumber → ⊥) → (compileSlice L ≡ L .slice) × (compileAnswer L .length ≡ 0)
   compile-refused h = go (compileVerdict L) refl
     where
       go : (n : ℕ) → compileVerdict L ≡ n → (compileSlice L ≡ L .slice) × (compileAnswer L .length ≡ 0)

@@ -6,6 +6,7 @@ use mathlib.Core.List.{List, [], _∷_}
 use native.Mathlib.Omega.{arith}
 use lib.ListN.{length, drop, length-append}
 use lib.Seq.{take-at}
+use Rattle.theory.specs.Verdict.{acceptedNumber}
 use Rattle.cells.specs.Limits.{wordsEach}
 use Rattle.program.specs.Program.{Program}
 use Rattle.code.specs.Op.{Op, call, schedule, branch, jump, future, return, faulty, words, emit, instructions}
@@ -43,7 +44,7 @@ emit-length [] = refl
 emit-length (o ∷ os) = omega (arith, length-append (words o) (emit os), words-length o, emit-length os)
 
 -- the words that compiling leaves are those of the listing
-pub words-are : (L : Compiling) → compileVerdict L ≡ 0 → wordsOf L ≡ emit (listingOf (L .tables))
+pub words-are : (L : Compiling) → compileVerdict L ≡ acceptedNumber → wordsOf L ≡ emit (listingOf (L .tables))
 words-are L e =
     rw (e, compileAnswer, compileSlice)
     (take-at (emit (listingOf (L .tables))) (drop (wordsEach * length (listingOf (L .tables))) (L .slice)) (wordsEach * length (listingOf (L .tables)))

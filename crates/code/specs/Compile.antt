@@ -6,8 +6,9 @@ use mathlib.Core.List.{List, [], _∷_, _++_, map}
 use mathlib.Core.Option.{Option, none, some}
 use lib.Dec.{ltb}
 use lib.ListN.{length, take, drop, getD}
-use Rattle.theory.specs.Verdict.{Refusal, within, verdict, Rule, holding}
+use Rattle.theory.specs.Verdict.{acceptedNumber, Refusal, within, verdict, Rule, holding}
 use Rattle.cells.specs.Limits.{maxCode, wordsEach}
+use Rattle.cells.specs.Refusals.{shapeRefused, codeRefused}
 use Rattle.program.specs.Tables.{Tables}
 use Rattle.program.specs.Program.{programOf}
 use Rattle.rules.specs.Verdict.{shapeRefusal, tableRefusals, tableRules, programRules}
@@ -24,22 +25,22 @@ unfoldable pub codeLong : Tables → Bool
 codeLong T = ltb maxCode (length (listingOf T))
 
 abbrev pub longRefusal : Refusal Tables
-longRefusal = record { number = 11; applies = codeLong }
+longRefusal = record { number = codeRefused; applies = codeLong }
 
 abbrev pub CodeFits : Tables → Type 0
 CodeFits T = length (listingOf T) ≤ maxCode
 
 abbrev pub longRule : Rule Tables
-longRule = record { number = 11; holds = CodeFits }
+longRule = record { number = codeRefused; holds = CodeFits }
 
 -- what a call asks that is lent the tables and more: its own 1, then 2 to 11 of the tables, then numbers of its own
 abbrev pub lentRefusals : {A : Type 0} → (A → Tables) → (A → Bool) → List (Refusal A) → List (Refusal A)
 lentRefusals tables shape own =
-    record { number = 1; applies = shape } ∷ (map (within tables) (tableRefusals ++ (longRefusal ∷ [])) ++ own)
+    record { number = shapeRefused; applies = shape } ∷ (map (within tables) (tableRefusals ++ (longRefusal ∷ [])) ++ own)
 
 abbrev pub lentRules : {A : Type 0} → (A → Tables) → (A → Type 0) → List (Rule A) → List (Rule A)
 lentRules tables shape own =
-    record { number = 1; holds = shape } ∷ (map (holding tables) (tableRules ++ (longRule ∷ [])) ++ own)
+    record { number = shapeRefused; holds = shape } ∷ (map (holding tables) (tableRules ++ (longRule ∷ [])) ++ own)
 
 -- compiling is lent a slice too: 11 also where the listing exceeds it
 pub record Compiling : Type 0 where
@@ -50,7 +51,7 @@ unfoldable pub sliceShort : Compiling → Bool
 sliceShort L = ltb (length (L .slice)) (wordsEach * length (listingOf (L .tables)))
 
 abbrev pub sliceRefusals : List (Refusal Compiling)
-sliceRefusals = record { number = 11; applies = λ L. codeLong (L .tables) || sliceShort L } ∷ []
+sliceRefusals = record { number = codeRefused; applies = λ L. codeLong (L .tables) || sliceShort L } ∷ []
 
 abbrev pub compileRefusals : List (Refusal Compiling)
 compileRefusals = map (within (λ (L : Compiling). L .tables)) (shapeRefusal ∷ tableRefusals) ++ sliceRefusals
@@ -60,7 +61,11 @@ compileVerdict L = verdict compileRefusals L
 
 abbrev pub sliceRules : List (Rule Compiling)
 sliceRules =
-    record { number = 11; holds = λ L. CodeFits (L .tables) × (wordsEach * length (listingOf (L .tables)) ≤ length (L .slice)) } ∷ []
+    record {
+      number = codeRefused;
+      holds = λ L. CodeFits (L .tables) × (wordsEach * length (listingOf (L .tables)) ≤ length (L .slice));
+    }
+    ∷ []
 
 abbrev pub compileRules : List (Rule Compiling)
 compileRules = map (holding (λ (L : Compiling). L .tables)) programRules ++ sliceRules
@@ -68,7 +73,7 @@ compileRules = map (holding (λ (L : Compiling). L .tables)) programRules ++ sli
 -- the answer, and the slice as it is left
 abbrev pub compileAnswer : Compiling → Compiled
 compileAnswer L = elim (compileVerdict L) [
-  | zero ↦ record { number = 0; length = length (listingOf (L .tables)) }
+  | zero ↦ record { number = acceptedNumber; length = length (listingOf (L .tables)) }
   | suc n ↦ record { number = suc n; length = 0 }
 ]
 

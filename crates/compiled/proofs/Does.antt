@@ -11,8 +11,10 @@ use native.Mathlib.Omega.{arith}
 use lib.IntN.{ℤ}
 use lib.ListN.{length}
 use borrow.Author.Tests.{lt-leb}
+use Rattle.theory.specs.Verdict.{acceptedNumber}
 use Rattle.theory.proofs.Lists.{every-map}
 use Rattle.cells.specs.Cell.{numAt}
+use Rattle.cells.specs.Refusals.{timeRefused, overrunRefused}
 use Rattle.program.specs.Tables.{Tables, taskCount}
 use Rattle.program.specs.Program.{Program, Switch, programOf, task, mode, dueSwitches, dueTasks}
 use Rattle.program.proofs.Decoded.{mode-count}
@@ -37,12 +39,13 @@ use Rattle.compiled.proofs.Refused.{through-two, head-late, entered-two
 use Rattle.compiled.proofs.Turns.{block-run}
 
 -- an instant is refused only with 16 and 17
-pub only-two : (P : Program) (readings times : List ℤ) (m k : ℕ) (s : State) (n : ℕ) → blockInstant P readings times m k s ≡ stop n → (n ≡ 16) ⊎ (n ≡ 17)
+pub only-two : (P : Program) (readings times : List ℤ) (m k : ℕ) (s : State) (n : ℕ) → blockInstant P readings times m k s ≡ stop n → (n ≡ timeRefused) ⊎ (n ≡ overrunRefused)
 only-two P readings times m k s n e =
-    block-stops P readings times ((n ≡ 16) ⊎ (n ≡ 17)) m k s n (through-two P readings times (headSteps P (mode P m) k) s n)
+    block-stops P readings times ((n ≡ timeRefused) ⊎ (n ≡ overrunRefused)) m k s n
+    (through-two P readings times (headSteps P (mode P m) k) s n)
     (λ u w q f. entered-two P readings times (modeAfter m w) (unitAfter k w) (switched P readings times w u) n f) e
 
-module _ (T : Tables) (a : programVerdict T ≡ 0) (readings times : List ℤ) where
+module _ (T : Tables) (a : programVerdict T ≡ acceptedNumber) (readings times : List ℤ) where
   abbrev P : Program
   P = programOf T
 
@@ -86,11 +89,11 @@ module _ (T : Tables) (a : programVerdict T ≡ 0) (readings times : List ℤ) w
 
   -- it is refused only with 17, where the times that are lent are in their ranges
   pub only-late : ((t : ℕ) → t < taskCount T → InRange (numAt times t) (task P t .worst))
-      → (m k : ℕ) (s : State) (n : ℕ) → AtBlock T m k s → blockInstant P readings times m k s ≡ stop n → n ≡ 17
+      → (m k : ℕ) (s : State) (n : ℕ) → AtBlock T m k s → blockInstant P readings times m k s ≡ stop n → n ≡ overrunRefused
   only-late r m k s n b e =
-      block-stops P readings times (n ≡ 17) m k s n (head-late P readings times (mode P m) k s n) late e
+      block-stops P readings times (n ≡ overrunRefused) m k s n (head-late P readings times (mode P m) k s n) late e
     where
-      late : (u : State) (w : Option Switch) → taken P (u .ports) (dueSwitches (mode P m) k) ≡ w → turned P readings times m k w u ≡ stop n → n ≡ 17
+      late : (u : State) (w : Option Switch) → taken P (u .ports) (dueSwitches (mode P m) k) ≡ w → turned P readings times m k w u ≡ stop n → n ≡ overrunRefused
       late u w q f =
           let d = entered-declared T a m k (b .declared) (b .in-round) (u .ports) w q in
           entered-late P readings times (modeAfter m w) (unitAfter k w) (switched P readings times w u) n

@@ -8,6 +8,7 @@ use native.Mathlib.Omega.{arith}
 use lib.IntN.{ℤ}
 use lib.ListN.{length, length-append, length-map}
 use borrow.Author.Tests.{lt-leb}
+use Rattle.theory.specs.Verdict.{acceptedNumber}
 use Rattle.theory.proofs.Bools.{is-true}
 use Rattle.cells.specs.Limits.{maxDelay}
 use Rattle.program.specs.Tables.{Tables}
@@ -46,7 +47,7 @@ head-count P M k = simp (length-append, length-map)
 pub body-count : (M : Mode) (k : ℕ) → length (bodySteps M k) ≡ 2 * length (dueInvocations M k)
 body-count M k = simp (length-append, length-map) (omega arith)
 
-module _ (T : Tables) (a : programVerdict T ≡ 0) (readings times : List ℤ) where
+module _ (T : Tables) (a : programVerdict T ≡ acceptedNumber) (readings times : List ℤ) where
   abbrev P : Program
   P = programOf T
 

@@ -8,6 +8,7 @@ use mathlib.Core.List.{List, _++_, map}
 use native.Mathlib.Omega.{arith}
 use lib.IntN.{ℤ}
 use Rattle.theory.specs.Lists.{keep, member, puts}
+use Rattle.theory.specs.Verdict.{acceptedNumber}
 use Rattle.theory.proofs.Lists.{keep-all, every-all}
 use Rattle.theory.proofs.Members.{Has}
 use Rattle.cells.specs.Cell.{numAt}
@@ -33,7 +34,7 @@ use Rattle.compiled.proofs.Named.{driver-number}
 use Rattle.compiled.proofs.Unmixed.{updates-unmixed, invocations-unmixed}
 use Rattle.compiled.proofs.Effects.{through-both, outputPuts, outputs-lead, drivers-lead, sensors-lead, releases-lead}
 
-module _ (T : Tables) (a : programVerdict T ≡ 0) where
+module _ (T : Tables) (a : programVerdict T ≡ acceptedNumber) where
   -- the program that the tables say
   abbrev P : Program
   P = programOf T
@@ -107,7 +108,7 @@ module _ (T : Tables) (a : programVerdict T ≡ 0) where
 
 -- from the block of a mode and unit, where the tasks that are due and those that are released have ended and their times are in
 -- range, the instant leaves what Giotto's instant says
-pub instant-done : (T : Tables) → programVerdict T ≡ 0 → (readings times : List ℤ) (m k : ℕ) (s : State)
+pub instant-done : (T : Tables) → programVerdict T ≡ acceptedNumber → (readings times : List ℤ) (m k : ℕ) (s : State)
     → m < modeCount T
     → ((t : ℕ) → member t (dueTasks (mode (programOf T) m) k) ≡ true → leftOf (s .left) t ≡ 0)
     → ((t : ℕ) → member t (tasksReleased (programOf T) readings m k s) ≡ true → leftOf (s .left) t ≡ 0)

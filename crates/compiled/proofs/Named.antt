@@ -10,6 +10,7 @@ use lib.IntN.{ℤ}
 use lib.ListN.{length}
 use borrow.Author.Tests.{lt-leb}
 use Rattle.theory.specs.Lists.{Every, member}
+use Rattle.theory.specs.Verdict.{acceptedNumber}
 use Rattle.theory.proofs.Bools.{is-true}
 use Rattle.theory.proofs.Lists.{every-keep, every-those, every-map, every-append, every-image}
 use Rattle.theory.proofs.Members.{has-those, member-says, every-member}
@@ -32,7 +33,7 @@ use Rattle.compiled.specs.Block.{calls, releases, headSteps, bodySteps}
 use Rattle.compiled.proofs.Through.{Names}
 use Rattle.compiled.proofs.Tests.{Aimed}
 
-module _ (T : Tables) (a : programVerdict T ≡ 0) where
+module _ (T : Tables) (a : programVerdict T ≡ acceptedNumber) where
   abbrev P : Program
   P = programOf T
 

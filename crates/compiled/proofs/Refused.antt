@@ -12,6 +12,7 @@ use Rattle.theory.proofs.Bools.{clash, is-true}
 use Rattle.theory.proofs.Lists.{every-map, every-all, every-append, every-image}
 use Rattle.cells.specs.Cell.{numAt}
 use Rattle.cells.specs.Limits.{firstOutputCall, firstSensorCall}
+use Rattle.cells.specs.Refusals.{timeRefused, overrunRefused}
 use Rattle.program.specs.Program.{Program, Mode, Invocation, Update, Switch, task, mode, dueInvocations, dueUpdates, dueSwitches, dueTasks}
 use Rattle.rules.specs.Fields.{InRange}
 use Rattle.rules.proofs.Fields.{range-says}
@@ -25,18 +26,19 @@ use Rattle.compiled.proofs.Then.{unless-stops, then-stops}
 
 module _ (P : Program) (readings times : List ℤ) where
   -- 16 or 17
-  pub through-two : (os : List Straight) (s : State) (n : ℕ) → through P readings times os s ≡ stop n → (n ≡ 16) ⊎ (n ≡ 17)
+  pub through-two : (os : List Straight) (s : State) (n : ℕ) → through P readings times os s ≡ stop n
+      → (n ≡ timeRefused) ⊎ (n ≡ overrunRefused)
   through-two [] s n = λ e. absurd (ok-not-stop e)
   through-two (o ∷ os) s n =
-      unless-stops ((n ≡ 16) ⊎ (n ≡ 17)) (timeBad P times (opOf o)) (stillRunning s (opOf o)) (through P readings times os (effect P readings times o s)) n
+      unless-stops ((n ≡ timeRefused) ⊎ (n ≡ overrunRefused)) (timeBad P times (opOf o)) (stillRunning s (opOf o)) (through P readings times os (effect P readings times o s)) n
       (λ t e. inl e) inr (through-two os (effect P readings times o s) n)
 
   -- 17 where no time is bad
   pub through-late : (os : List Straight) (s : State) (n : ℕ) → Every (λ o. timeBad P times (opOf o) ≡ false) os
-      → through P readings times os s ≡ stop n → n ≡ 17
+      → through P readings times os s ≡ stop n → n ≡ overrunRefused
   through-late [] s n h = λ e. absurd (ok-not-stop e)
   through-late (o ∷ os) s n h =
-      unless-stops (n ≡ 17) (timeBad P times (opOf o)) (stillRunning s (opOf o)) (through P readings times os (effect P readings times o s)) n
+      unless-stops (n ≡ overrunRefused) (timeBad P times (opOf o)) (stillRunning s (opOf o)) (through P readings times os (effect P readings times o s)) n
       (λ t e. clash t (h .0)) (λ e. e) (through-late os (effect P readings times o s) n (h .1))
 
   -- what is called needs no time
@@ -44,7 +46,7 @@ module _ (P : Program) (readings times : List ℤ) where
   calls-timed f xs = every-image _ (λ x. calls (f x)) xs (every-all _ xs (λ x. refl))
 
   -- so what stands before the switch tests is refused with 17 only
-  pub head-late : (M : Mode) (k : ℕ) (s : State) (n : ℕ) → through P readings times (headSteps P M k) s ≡ stop n → n ≡ 17
+  pub head-late : (M : Mode) (k : ℕ) (s : State) (n : ℕ) → through P readings times (headSteps P M k) s ≡ stop n → n ≡ overrunRefused
   head-late M k s n e =
       through-late (headSteps P M k) s n
       (every-append _ (map (λ t. calls (firstOutputCall + t)) (dueTasks M k)) _ (calls-timed (λ t. firstOutputCall + t) (dueTasks M k))
@@ -52,18 +54,19 @@ module _ (P : Program) (readings times : List ℤ) where
       (calls-timed (λ p. firstSensorCall + p) (P .sensors)))) e
 
   -- from the entry: 16 or 17
-  pub entered-two : (m k : ℕ) (s : State) (n : ℕ) → entered P readings times m k s ≡ stop n → (n ≡ 16) ⊎ (n ≡ 17)
+  pub entered-two : (m k : ℕ) (s : State) (n : ℕ) → entered P readings times m k s ≡ stop n → (n ≡ timeRefused) ⊎ (n ≡ overrunRefused)
   unfolding entered
   entered-two m k s n e =
-      then-stops ((n ≡ 16) ⊎ (n ≡ 17)) (through P readings times (bodySteps (mode P m) k) s) (λ u. ok (begun P readings times m k u)) n
+      then-stops ((n ≡ timeRefused) ⊎ (n ≡ overrunRefused)) (through P readings times (bodySteps (mode P m) k) s)
+      (λ u. ok (begun P readings times m k u)) n
       (through-two (bodySteps (mode P m) k) s n) (λ v p f. absurd (ok-not-stop f)) e
 
   -- 17 where the times of the tasks that are released are in their ranges
   pub entered-late : (m k : ℕ) (s : State) (n : ℕ) → Every (λ t. InRange (numAt times t) (task P t .worst)) (dueTasks (mode P m) k)
-      → entered P readings times m k s ≡ stop n → n ≡ 17
+      → entered P readings times m k s ≡ stop n → n ≡ overrunRefused
   unfolding entered
   entered-late m k s n h e =
-      then-stops (n ≡ 17) (through P readings times (bodySteps (mode P m) k) s) (λ u. ok (begun P readings times m k u)) n
+      then-stops (n ≡ overrunRefused) (through P readings times (bodySteps (mode P m) k) s) (λ u. ok (begun P readings times m k u)) n
       (through-late (bodySteps (mode P m) k) s n timed) (λ v p f. absurd (ok-not-stop f)) e
     where
       timed : Every (λ o. timeBad P times (opOf o) ≡ false) (bodySteps (mode P m) k)

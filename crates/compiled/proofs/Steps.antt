@@ -6,9 +6,10 @@ use mathlib.Core.Bool.{Bool, true, false, not}
 use mathlib.Core.List.{List}
 use lib.IntN.{ℤ}
 use lib.ListN.{length}
-use Rattle.theory.specs.Verdict.{orElse, verdict}
+use Rattle.theory.specs.Verdict.{acceptedNumber, orElse, verdict}
 use Rattle.theory.proofs.Bools.{clash}
 use Rattle.theory.proofs.Verdict.{clear-verdict}
+use Rattle.cells.specs.Refusals.{timeRefused, overrunRefused, faultyRefused}
 use Rattle.program.specs.Program.{Program}
 use Rattle.code.specs.Op.{Op, return}
 use Rattle.machine.specs.declared.At.{At}
@@ -31,7 +32,7 @@ module _ (P : Program) (readings times : List ℤ) (code : List Op) where
       ∙ go (isFaulty P (length code) (x .planned) o) (timeBad P times o) (stillRunning (x .state) o) (isReturn o) h r
     where
       go : (f t s b : Bool) → f ≡ false → b ≡ false
-          → _≡_ {A = Outcome} (elim (orElse f 19 (orElse t 16 (orElse s 17 0))) [
+          → _≡_ {A = Outcome} (elim (orElse f faultyRefused (orElse t timeRefused (orElse s overrunRefused acceptedNumber))) [
             | zero ↦ elim b [ true ↦ ok (x .state) | false ↦ run P readings times code count (executes P readings times o x) ]
             | suc n ↦ stop (suc n)
           ])
@@ -46,6 +47,6 @@ module _ (P : Program) (readings times : List ℤ) (code : List Op) where
   pub returned : (count : ℕ) (x : At) → fetch P readings times code x ≡ return → x .planned ≡ true → run P readings times code (suc count) x ≡ ok (x .state)
   returned count x e h =
       at-return P readings times code count x
-      (subst (λ (q : Op). verdict (instructionRefusals P readings times (length code) q) x ≡ 0) (sym e)
+      (subst (λ (q : Op). verdict (instructionRefusals P readings times (length code) q) x ≡ acceptedNumber) (sym e)
       (clear-verdict (instructionRefusals P readings times (length code) return) x (ap not h, (refl, (refl, tt)))))
       (ap isReturn e)

@@ -3,6 +3,7 @@
 use Prim.Native.Nat.{ℕ}
 use mathlib.Core.Path.{_≡_, refl, sym}
 use mathlib.Core.Bool.{Bool, true, false}
+use Rattle.cells.specs.Refusals.{timeRefused, overrunRefused}
 use Rattle.machine.specs.declared.State.{State}
 use Rattle.machine.specs.Instant.{Outcome, ok, stop}
 use Rattle.machine.proofs.Outcomes.{stopped}
@@ -20,7 +21,8 @@ then-unless false true o f = refl
 then-unless false false o f = refl
 
 -- an instruction and its rest are refused with 16, with 17, or where the rest is
-pub unless-stops : (R : Type 0) (t r : Bool) (o : Outcome) (n : ℕ) → ((t ≡ true) → (n ≡ 16) → R) → ((n ≡ 17) → R) → (o ≡ stop n → R)
+pub unless-stops : (R : Type 0) (t r : Bool) (o : Outcome) (n : ℕ) → ((t ≡ true) → (n ≡ timeRefused) → R) → ((n ≡ overrunRefused) → R)
+    → (o ≡ stop n → R)
     → unless t r o ≡ stop n → R
 unless-stops R true r o n f g h e = f refl (sym (stopped e))
 unless-stops R false true o n f g h e = g (sym (stopped e))

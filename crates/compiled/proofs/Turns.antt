@@ -8,6 +8,7 @@ use mathlib.Core.Option.{Option, none, some}
 use native.Mathlib.Omega.{arith}
 use lib.IntN.{ℤ}
 use lib.ListN.{length}
+use Rattle.theory.specs.Verdict.{acceptedNumber}
 use Rattle.program.specs.Tables.{Tables, modeCount}
 use Rattle.program.specs.Program.{Program, Switch, programOf, mode, enteredUnit, dueSwitches}
 use Rattle.program.proofs.Decoded.{mode-count}
@@ -26,7 +27,7 @@ use Rattle.compiled.proofs.Count.{staying, turning}
 use Rattle.compiled.proofs.Named.{head-named, switches-aimed, entered-declared}
 use Rattle.compiled.proofs.Entry.{head-ops, head-count, body-count, entry-run}
 
-module _ (T : Tables) (a : programVerdict T ≡ 0) (readings times : List ℤ) where
+module _ (T : Tables) (a : programVerdict T ≡ acceptedNumber) (readings times : List ℤ) where
   abbrev P : Program
   P = programOf T
 

@@ -9,6 +9,7 @@ use mathlib.Core.Logic.{_⊎_, inl, inr, ⊎-elim}
 use native.Mathlib.Omega.{arith}
 use lib.Dec.{eqb}
 use borrow.Author.Tests.{eqb-false}
+use Rattle.theory.specs.Verdict.{acceptedNumber}
 use Rattle.theory.proofs.Members.{has-map}
 use Rattle.program.specs.Tables.{Tables, sensor, actuator, input, output, driverCount, guardKind, guardPort, guardLow, guardHigh, kindAlways, kindInterval, modeCount, invDriver, updDriver}
 use Rattle.program.specs.Guard.{always, interval, guardOf}
@@ -55,7 +56,7 @@ module _ (T : Tables) where
   mode-output : ModePorts T → (m p : ℕ) → ModePort T m p → OfKind T output p
   mode-output o m p (k, l, (e, q)) = subst (OfKind T output) q (o .outputs k l)
 
-  module _ (a : programVerdict T ≡ 0) (m k : ℕ) (l : m < modeCount T) where
+  module _ (a : programVerdict T ≡ acceptedNumber) (m k : ℕ) (l : m < modeCount T) where
     -- no driver of a due update writes what one reads
     pub updates-unmixed : Unmixed (map (λ (r : Update). driver (programOf T) (r .driver)) (dueUpdates (mode (programOf T) m) k))
     updates-unmixed p w r = let z : actuator ≡ output = one-kind actuator output p written read in omega (arith, z)

@@ -8,6 +8,7 @@ use lib.IntN.{ℤ}
 use lib.ListN.{set}
 use Rattle.cells.specs.Cell.{numAt}
 use Rattle.cells.specs.Limits.{firstOutputCall, firstSensorCall}
+use Rattle.cells.specs.Refusals.{timeRefused, overrunRefused}
 use Rattle.program.specs.Program.{Program, Mode, Switch, mode, ticksOf, nextUnit, dueInvocations, dueUpdates, dueSwitches, dueTasks}
 use Rattle.code.specs.Op.{Op, call, schedule}
 use Rattle.code.specs.Listing.{blockAddress, futureAddress}
@@ -28,8 +29,8 @@ opOf (releases t) = schedule t
 
 -- 16 where a time is bad, 17 where a task is still running, and else what comes after
 abbrev pub unless : Bool → Bool → Outcome → Outcome
-unless true running more = stop 16
-unless false true more = stop 17
+unless true running more = stop timeRefused
+unless false true more = stop overrunRefused
 unless false false more = more
 
 -- an outcome, and what comes after it

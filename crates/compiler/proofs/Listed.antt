@@ -8,6 +8,7 @@ use native.Mathlib.Omega.{arith}
 use lib.Dec.{eqb}
 use lib.ListN.{length, getD}
 use Rattle.theory.specs.Lists.{cat, Every}
+use Rattle.theory.specs.Verdict.{acceptedNumber}
 use Rattle.theory.proofs.Lists.{sum-same, every-keep}
 use Rattle.program.specs.Tables.{Tables, startMode, modeCount}
 use Rattle.program.specs.Sets.{sensorRows}
@@ -79,7 +80,8 @@ module _ (T : Tables) where
             go true = omega (arith, e)
             go false = omega (arith, b, ap sizeOf (counted k))
 
-  module _ (a : programVerdict T ≡ 0) (entries : List ℕ) (entered : (m : ℕ) → m < modeCount T → getD entries m 0 ≡ entryAddress P m 0) where
+  module _ (a : programVerdict T ≡ acceptedNumber) (entries : List ℕ)
+      (entered : (m : ℕ) → m < modeCount T → getD entries m 0 ≡ entryAddress P m 0) where
     -- the due switches name declared targets
     declared : (m k : ℕ) → m < modeCount T → Every (λ w. w .target < modeCount T) (dueSwitches (mode P m) k)
     declared m k l =

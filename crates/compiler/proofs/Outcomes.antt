@@ -8,10 +8,11 @@ use native.Mathlib.Omega.{arith}
 use lib.Dec.{ltb}
 use lib.ListN.{length, getD}
 use borrow.Author.Tests.{ltb-false}
-use Rattle.theory.specs.Verdict.{orElse, within, verdict, after}
+use Rattle.theory.specs.Verdict.{acceptedNumber, orElse, within, verdict, after}
 use Rattle.theory.proofs.Bools.{neither}
 use Rattle.theory.proofs.Verdict.{verdict-append, verdict-within}
 use Rattle.cells.specs.Limits.{maxCode, wordsEach}
+use Rattle.cells.specs.Refusals.{codeRefused}
 use Rattle.program.specs.Tables.{Tables, startMode}
 use Rattle.program.specs.Program.{programOf}
 use Rattle.rules.specs.Verdict.{shapeRefusal, tableRefusals, programVerdict}
@@ -29,11 +30,11 @@ use Rattle.compiler.proofs.Listed.{all-same}
 
 module _ (L : Compiling) where
   -- what number 11 leaves
-  pub listed-refused : (codeLong (L .tables) || sliceShort L) ≡ true → refused L 11 ≡ listed L
-  listed-refused e = ap (λ (b : Bool). elim b as (λ b. Outcome) [ true ↦ refused L 11 | false ↦ accepted L ]) (sym e)
+  pub listed-refused : (codeLong (L .tables) || sliceShort L) ≡ true → refused L codeRefused ≡ listed L
+  listed-refused e = ap (λ (b : Bool). elim b as (λ b. Outcome) [ true ↦ refused L codeRefused | false ↦ accepted L ]) (sym e)
 
   pub listed-accepted : (codeLong (L .tables) || sliceShort L) ≡ false → accepted L ≡ listed L
-  listed-accepted e = ap (λ (b : Bool). elim b as (λ b. Outcome) [ true ↦ refused L 11 | false ↦ accepted L ]) (sym e)
+  listed-accepted e = ap (λ (b : Bool). elim b as (λ b. Outcome) [ true ↦ refused L codeRefused | false ↦ accepted L ]) (sym e)
 
   -- number 11 is told from the listing's length
   pub long-told : (n : ℕ) → n ≡ length (listingOf (L .tables))
@@ -55,26 +56,27 @@ module _ (L : Compiling) where
       (elim v as (λ v. List ℕ) [ zero ↦ accepted L .slice | suc n ↦ L .slice ])
 
   -- a number up to 10
-  pub compiled-refused : (n : ℕ) → programVerdict (L .tables) ≡ n → (n ≡ 0 → ⊥) → refused L n ≡ compiled L
+  pub compiled-refused : (n : ℕ) → programVerdict (L .tables) ≡ n → (n ≡ acceptedNumber → ⊥) → refused L n ≡ compiled L
   compiled-refused zero e d = absurd (d refl)
   compiled-refused (suc n) e d = ap by (sym (verdict-first ∙ ap (λ (k : ℕ). after k (verdict sliceRefusals L)) e))
 
   -- none up to 10
-  pub compiled-listed : programVerdict (L .tables) ≡ 0 → listed L ≡ compiled L
+  pub compiled-listed : programVerdict (L .tables) ≡ acceptedNumber → listed L ≡ compiled L
   compiled-listed e =
       go (codeLong (L .tables) || sliceShort L) ∙ ap by (sym (verdict-first ∙ ap (λ (k : ℕ). after k (verdict sliceRefusals L)) e))
     where
-      go : (b : Bool) → elim b as (λ b. Outcome) [ true ↦ refused L 11 | false ↦ accepted L ] ≡ by (orElse b 11 0)
+      go : (b : Bool)
+          → elim b as (λ b. Outcome) [ true ↦ refused L codeRefused | false ↦ accepted L ] ≡ by (orElse b codeRefused acceptedNumber)
       go true = refl
       go false = refl
 
 -- what was written is the listing: so the outcome is that of a program that number 11 passes
-pub all-written : (T : Tables) (a : programVerdict T ≡ 0) (layout : Layout) → LaidOut T layout → {start : ℕ} → start ≡ startMode T → (slice exit : List ℕ) (next : ℕ)
+pub all-written : (T : Tables) (a : programVerdict T ≡ acceptedNumber) (layout : Layout) → LaidOut T layout → {start : ℕ} → start ≡ startMode T → (slice exit : List ℕ) (next : ℕ)
     → written exit next ≡ writes (allIn T (layout .entries) (getD (layout .starts) start 0)) (written slice 0)
     → (ltb maxCode (layout .length) || ltb (length slice) (wordsEach * layout .length)) ≡ false
-    → outcome (record { number = 0; length = layout .length }) exit ≡ listed (compiling T slice)
+    → outcome (record { number = acceptedNumber; length = layout .length }) exit ≡ listed (compiling T slice)
 all-written T a layout laid {start} q slice exit next w b =
-    ap₂ (λ (n : ℕ) (s : List ℕ). outcome (record { number = 0; length = n }) s) (laid .length)
+    ap₂ (λ (n : ℕ) (s : List ℕ). outcome (record { number = acceptedNumber; length = n }) s) (laid .length)
     (ap (λ (v : Written). v .code) (w ∙ ap (λ (os : List Words). writes os (written slice 0)) same ∙ writes-emit (listingOf T) slice fits))
     ∙ listed-accepted (compiling T slice) (sym (long-told (compiling T slice) (layout .length) (laid .length)) ∙ b)
   where

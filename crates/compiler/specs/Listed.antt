@@ -4,7 +4,9 @@ use Prim.Native.Nat.{ℕ, _*_}
 use mathlib.Core.Bool.{true, false, _||_}
 use mathlib.Core.List.{List, _++_}
 use lib.ListN.{length, drop}
+use Rattle.theory.specs.Verdict.{acceptedNumber}
 use Rattle.cells.specs.Limits.{wordsEach}
+use Rattle.cells.specs.Refusals.{codeRefused}
 use Rattle.program.specs.Tables.{Tables}
 use Rattle.code.specs.Op.{emit}
 use Rattle.code.specs.Compile.{Compiling, listingOf, codeLong, sliceShort, compileAnswer, compileSlice}
@@ -32,9 +34,9 @@ refused L n = outcome (record { number = n; length = 0 }) (L .slice)
 -- the listing is written; the rest of the slice stays as it was
 abbrev pub accepted : Compiling → Outcome
 accepted L =
-    outcome (record { number = 0; length = length (listingOf (L .tables)) })
+    outcome (record { number = acceptedNumber; length = length (listingOf (L .tables)) })
     (emit (listingOf (L .tables)) ++ drop (wordsEach * length (listingOf (L .tables))) (L .slice))
 
 -- number 11, or the listing
 abbrev pub listed : Compiling → Outcome
-listed L = elim (codeLong (L .tables) || sliceShort L) [ true ↦ refused L 11 | false ↦ accepted L ]
+listed L = elim (codeLong (L .tables) || sliceShort L) [ true ↦ refused L codeRefused | false ↦ accepted L ]

@@ -1,6 +1,7 @@
 // Compiling a program that numbers 1 to 10 pass: number 11, or its listing.
 ghost use mathlib.Core.Path.{_≡_};
 ghost use Prim.Native.Nat.{_≤_};
+ghost use Rattle.theory.specs.Verdict.{acceptedNumber};
 ghost use Rattle.cells.specs.Cell.{rowsIn};
 ghost use Rattle.cells.specs.Limits.{maxModes};
 ghost use Rattle.program.specs.Tables.{Tables, startMode, modeWidth};
@@ -11,6 +12,7 @@ ghost use Rattle.compiler.specs.Listed.{compiling, outcome, listed};
 use crate::listing;
 use cells::kinds::Mode;
 use cells::limits::Program;
+use cells::refusals;
 use code::Compiled;
 use layout::addresses;
 use layout::counts;
@@ -30,14 +32,15 @@ pub fn listed(
     requires { ⌜ rowsIn modeWidth (now modes) ≤ maxModes ⌝ }
     ensures { λ r. ⌜ ((T : Tables) → T .ports ≡ now (ports .entry) → T .modes ≡ now (modes .entry)
         → T .invocations ≡ now (invocations .entry) → T .updates ≡ now (updates .entry) → T .switches ≡ now (switches .entry)
-        → start .0 ≡ startMode T → programVerdict T ≡ 0 → outcome r (now (code .exit)) ≡ listed (compiling T (now (code .entry)))) ⌝ }
+        → start .0 ≡ startMode T → programVerdict T ≡ acceptedNumber
+        → outcome r (now (code .exit)) ≡ listed (compiling T (now (code .entry)))) ⌝ }
 {
     let sensors = counts::sensors(ports);
     let laid = addresses::lay_out(modes, invocations, updates, switches, sensors);
     let n = laid.length;
     if (Program::CODE < n) | (code.len() < Program::WORDS * n) {
         return Compiled {
-            number: 11,
+            number: refusals::CODE,
             length: 0,
         };
     }
@@ -56,7 +59,7 @@ pub fn listed(
         start,
     );
     Compiled {
-        number: 0,
+        number: refusals::ACCEPTED,
         length: n,
     }
 }

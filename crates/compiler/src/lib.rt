@@ -4,6 +4,7 @@ ghost use Rattle.program.specs.Tables.{tables};
 ghost use Rattle.code.specs.Compile.{compileAnswer, compileSlice};
 ghost use Rattle.compiler.specs.Listed.{compiling};
 use cells::kinds::Mode;
+use cells::refusals;
 use cells::table;
 use code::Compiled;
 
@@ -51,7 +52,7 @@ pub fn compile(
         switches,
         start,
     );
-    if 0 < number {
+    if refusals::ACCEPTED < number {
         return Compiled {
             number: number,
             length: 0,

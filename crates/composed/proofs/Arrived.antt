@@ -9,6 +9,7 @@ use native.Mathlib.Omega.{arith}
 use lib.IntN.{ℤ}
 use lib.ListN.{length}
 use Rattle.theory.specs.Lists.{member}
+use Rattle.theory.specs.Verdict.{acceptedNumber}
 use Rattle.theory.proofs.Bools.{clash}
 use Rattle.theory.proofs.Members.{member-keep}
 use Rattle.cells.specs.Limits.{suppliers, maxPorts}
@@ -56,7 +57,8 @@ module _ (T : Tables) (W S : List ℤ) (F : Function) where
         → member p (task P t .outputs) ≡ true → valueOf (s .outputs) p ≡ results P F v t p
     pub below : (j : ℕ) → j < suppliers → Below T W S F j m k (s .left)
 
-  module _ (a : programVerdict T ≡ 0) (n : ℕ) (C : Configuration) (s : State) (g : Edge T W S F n C s) (readings : List ℤ) where
+  module _ (a : programVerdict T ≡ acceptedNumber) (n : ℕ) (C : Configuration) (s : State) (g : Edge T W S F n C s)
+      (readings : List ℤ) where
     -- the values after step 3
     abbrev read : List ℤ
     read = sensed P (results P F (C .ports)) readings C

@@ -8,11 +8,12 @@ use native.Mathlib.Omega.{arith}
 use lib.IntN.{ℤ}
 use lib.ListN.{length}
 use borrow.Author.Tests.{le-ltb}
-use Rattle.theory.specs.Verdict.{Refusal, within, verdict, after}
+use Rattle.theory.specs.Verdict.{acceptedNumber, Refusal, within, verdict, after}
 use Rattle.theory.proofs.Bools.{bars-iff}
 use Rattle.theory.proofs.Conditions.{or-else-no}
 use Rattle.theory.proofs.Verdict.{clear-verdict, verdict-append, verdict-skip, verdict-within}
 use Rattle.cells.specs.Limits.{maxPorts, maxTasks, maxCode, wordsEach}
+use Rattle.cells.specs.Refusals.{shapeRefused}
 use Rattle.program.specs.Tables.{Tables}
 use Rattle.rules.specs.Shape.{WholeRows}
 use Rattle.rules.specs.Verdict.{tableRefusals, programVerdict}
@@ -39,7 +40,7 @@ abbrev asked : List (Refusal Advance)
 asked = map (within (λ (L : Advance). L .tables)) (tableRefusals ++ (longRefusal ∷ []))
 
 -- 2 to 11 do not apply
-asked-none : (L : Advance) → programVerdict (L .tables) ≡ 0 → CodeFits (L .tables) → verdict asked L ≡ 0
+asked-none : (L : Advance) → programVerdict (L .tables) ≡ acceptedNumber → CodeFits (L .tables) → verdict asked L ≡ acceptedNumber
 unfolding codeLong
 asked-none L a f =
     verdict-within (λ (L : Advance). L .tables) (tableRefusals ++ (longRefusal ∷ [])) L
@@ -49,10 +50,10 @@ asked-none L a f =
 -- the verdict is 0
 pub related-verdict : (T : Tables) (W S : List ℤ) (F : Function) → Sound T W S → (n : ℕ) (C : Configuration) (s : State) (X : Lent) → Related T W S F n C s
     → length (X .readings) ≡ maxPorts → length (X .results) ≡ maxPorts → length (X .times) ≡ maxTasks
-    → advanceVerdict (byCompiled T S X s) ≡ 0
+    → advanceVerdict (byCompiled T S X s) ≡ acceptedNumber
 unfolding advanceVerdict
 related-verdict T W S F sound n C s X related r o t =
-    or-else-no 1 (verdict (asked ++ runRefusals) L) (bars-iff (advance-shape-bars L) .1 shaped)
+    or-else-no shapeRefused (verdict (asked ++ runRefusals) L) (bars-iff (advance-shape-bars L) .1 shaped)
     ∙ (verdict-append asked runRefusals L (omega arith)
     ∙ ap₂ after (asked-none L (sound .accepted) (sound .fits)) own)
   where
@@ -69,7 +70,7 @@ related-verdict T W S F sound n C s X related r o t =
       times = t;
     }
 
-    own : verdict runRefusals L ≡ 0
+    own : verdict runRefusals L ≡ acceptedNumber
     own =
         clear-verdict runRefusals L
         (bars-iff (joined-bars T S) .1 (sound .joined), (bars-iff (state-bars L) .1 (related-fits T W S F sound n C X s related), tt))

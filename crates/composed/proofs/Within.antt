@@ -9,6 +9,7 @@ use native.Mathlib.Decide.{decLt}
 use native.Mathlib.Omega.{arith}
 use lib.IntN.{ℤ}
 use lib.ListN.{length, List·getD-eq-default}
+use Rattle.theory.specs.Verdict.{acceptedNumber}
 use Rattle.theory.proofs.Lists.{those-few}
 use Rattle.theory.proofs.Filled.{zeros-at}
 use Rattle.cells.specs.Limits.{suppliers, maxTasks, wordsEach, maxWorst}
@@ -47,7 +48,7 @@ code-some T = omega (arith, code-count T)
 block-few : (S : List ℤ) (j a : ℕ) → length (blockOf S j a) ≤ scheduleCount S
 block-few S j a = those-few _ (rowOf S) (scheduleCount S) 0
 
-module _ (T : Tables) (a : programVerdict T ≡ 0) where
+module _ (T : Tables) (a : programVerdict T ≡ acceptedNumber) where
   -- no worst case is longer than the longest
   worst-few : (t : ℕ) → task (programOf T) t .worst ≤ maxWorst
   worst-few t = go (decLt t (taskCount T))

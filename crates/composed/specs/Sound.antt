@@ -4,6 +4,7 @@ use Prim.Native.Nat.{ℕ, _<_}
 use mathlib.Core.Path.{_≡_}
 use mathlib.Core.List.{List}
 use lib.IntN.{ℤ}
+use Rattle.theory.specs.Verdict.{acceptedNumber}
 use Rattle.cells.specs.Limits.{suppliers, maxSchedule}
 use Rattle.program.specs.Tables.{Tables, modeCount}
 use Rattle.program.specs.Program.{programOf}
@@ -17,7 +18,7 @@ use Rattle.suppliers.specs.Schedule.{Joined}
 use Rattle.suppliers.specs.Supplier.{course}
 
 pub record Sound (T : Tables) (W S : List ℤ) : Type 0 where
-  pub accepted : programVerdict T ≡ 0
+  pub accepted : programVerdict T ≡ acceptedNumber
   pub fits : CodeFits T
   pub windows : Windows (record { tables = T; windows = W })
   -- the joined schedule has its shape, and passes 13

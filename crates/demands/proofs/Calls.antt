@@ -8,7 +8,7 @@ use mathlib.Core.List.{List, [], _∷_, _++_, map}
 use mathlib.Core.Logic.{_↔_, Iff·trans}
 use native.Mathlib.Omega.{arith}
 use Rattle.theory.specs.Claim.{Bars}
-use Rattle.theory.specs.Verdict.{Refusal, within, verdict, Rule, holding, First, Keep}
+use Rattle.theory.specs.Verdict.{acceptedNumber, Refusal, within, verdict, Rule, holding, First, Keep}
 use Rattle.theory.proofs.Bools.{_or_, bars-lt, bars-as}
 use Rattle.theory.proofs.Verdict.{Barred, verdict-first, first-none, barred-within, barred-append}
 use Rattle.program.specs.Tables.{Tables}
@@ -84,8 +84,8 @@ part-first L n =
     (refl, windows-bar (windowedOf L), λ w. (refl, part-bars (L .tables) (L .part) (supplierOf L), λ p. tt))
     n
 
-pub part-kept : (L : Asked) → (partVerdict L ≡ 0) ↔ Keep partRules L
-part-kept L = Iff·trans (part-first L 0) (first-none partRules L (omega arith))
+pub part-kept : (L : Asked) → (partVerdict L ≡ acceptedNumber) ↔ Keep partRules L
+part-kept L = Iff·trans (part-first L acceptedNumber) (first-none partRules L (omega arith))
 
 -- an advance, before it runs
 advance-first : (L : Advance) (n : ℕ) → (advanceVerdict L ≡ n) ↔ First advanceRules L n
@@ -95,9 +95,10 @@ advance-first L n =
     (refl, joined-bars (L .tables) (L .schedule), λ w. (refl, state-bars L, λ p. tt)) n
 
 -- where it gives no number, its rules hold, and what else was said with it
-pub advance-kept : (L : Advance) {X Y : Type 0} → X ↔ ((advanceVerdict L ≡ 0) × Y) → X ↔ (Keep advanceRules L × Y)
+pub advance-kept : (L : Advance) {X Y : Type 0} → X ↔ ((advanceVerdict L ≡ acceptedNumber) × Y) → X ↔ (Keep advanceRules L × Y)
 advance-kept L w =
-    let k : (advanceVerdict L ≡ 0) ↔ Keep advanceRules L = Iff·trans (advance-first L 0) (first-none advanceRules L (omega arith)) in (
+    let k : (advanceVerdict L ≡ acceptedNumber) ↔ Keep advanceRules L =
+    Iff·trans (advance-first L acceptedNumber) (first-none advanceRules L (omega arith)) in (
       λ x. (k .0 (w .0 x .0), w .0 x .1),
       λ y. w .1 (k .1 (y .0), y .1),
     )

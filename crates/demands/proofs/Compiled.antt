@@ -4,6 +4,7 @@ use mathlib.Core.Path.{_≡_, sym, ap, _∙_}
 use mathlib.Core.List.{List}
 use Prim.Native.Nat.{ℕ}
 use lib.IntN.{ℤ}
+use Rattle.theory.specs.Verdict.{acceptedNumber}
 use Rattle.program.specs.Program.{programOf}
 use Rattle.code.specs.Op.{instructions}
 use Rattle.code.specs.Compile.{Compiling, compileVerdict}
@@ -19,7 +20,8 @@ use Rattle.demands.specs.Compiled.{instantOf, CompiledInstant}
 use Rattle.demands.proofs.Verdict.{compiled-accepted}
 
 -- over the words that compiling leaves, an instant comes to what it does from the block
-from-block : (L : Compiling) → compileVerdict L ≡ 0 → (readings times : List ℤ) (m k : ℕ) (s : State) → AtBlock (L .tables) m k s
+from-block : (L : Compiling) → compileVerdict L ≡ acceptedNumber → (readings times : List ℤ) (m k : ℕ) (s : State)
+    → AtBlock (L .tables) m k s
     → instantOf L readings times m k s ≡ blockInstant (programOf (L .tables)) readings times m k s
 from-block L e readings times m k s b =
     ap (λ (ws : List ℕ). runInstant (programOf (L .tables)) readings times (instructions ws) s) (words-are L e)

@@ -5,6 +5,7 @@ use mathlib.Core.Path.{_≡_, refl, sym, ap, subst, _∙_}
 use mathlib.Core.List.{List}
 use mathlib.Core.Logic.{inl, inr}
 use native.Mathlib.Omega.{arith}
+use Rattle.theory.specs.Verdict.{acceptedNumber}
 use Rattle.program.specs.Program.{programOf}
 use Rattle.code.specs.Op.{emit}
 use Rattle.code.specs.Compile.{listingOf}
@@ -40,12 +41,13 @@ module _ (Y : System) (a : Accepted Y) (F : Function) (lents : ℕ → Lent) whe
   -- a fair tick is accepted and keeps the relation
   one-tick : (n : ℕ) (C : Configuration) (s : State) (X : Lent) → Suited (Y .tables) (code Y) (joined Y) F n C s X
       → Related (Y .tables) (Y .windows) (joined Y) F n C s
-      → (advanced Y X s .number ≡ 0)
+      → (advanced Y X s .number ≡ acceptedNumber)
       × Related (Y .tables) (Y .windows) (joined Y) F (suc n) (pass (programOf (Y .tables)) F n (X .readings) C) (advanced Y X s .state)
   one-tick n C s X x r =
       subst (λ (ws : List ℕ).
       let b = advanceAnswer (record { tables = Y .tables; code = ws; schedule = joined Y; state = s; lent = X }) in
-      (b .number ≡ 0) × Related (Y .tables) (Y .windows) (joined Y) F (suc n) (pass (programOf (Y .tables)) F n (X .readings) C) (b .state))
+      (b .number ≡ acceptedNumber)
+      × Related (Y .tables) (Y .windows) (joined Y) F (suc n) (pass (programOf (Y .tables)) F n (X .readings) C) (b .state))
       (sym is-compiled)
       (relation-kept (Y .tables) (Y .windows) (joined Y) sound F n C s X (subst (λ (ws : List ℕ). Suited (Y .tables) ws (joined Y) F n C s X) is-compiled x) r)
 

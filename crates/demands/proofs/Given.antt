@@ -10,6 +10,7 @@ use native.Mathlib.Omega.{arith}
 use lib.IntN.{ℤ, pos}
 use lib.ListN.{replicate}
 use Rattle.theory.specs.Lists.{those, gather, member, Put}
+use Rattle.theory.specs.Verdict.{acceptedNumber}
 use Rattle.theory.proofs.Members.{has-those, has-gather}
 use Rattle.theory.proofs.Puts.{Wrote, puts-length, puts-at}
 use Rattle.cells.specs.Limits.{maxPorts, maxTasks}
@@ -72,7 +73,7 @@ gives-exactly pass value outputs n p x =
     )
 
 -- so for an output of an active task the results have what the task gives: active tasks share no output
-given-at : (T : Tables) → programVerdict T ≡ 0 → (F : Function) (readings : ℕ → List ℤ) (n t p : ℕ)
+given-at : (T : Tables) → programVerdict T ≡ acceptedNumber → (F : Function) (readings : ℕ → List ℤ) (n t p : ℕ)
     → let C = execution (programOf T) F readings (suc n) in
     C .active t ≡ true → member p (task (programOf T) t .outputs) ≡ true
     → valueOf (resultsOf (programOf T) F C) p ≡ results (programOf T) F (C .ports) t p

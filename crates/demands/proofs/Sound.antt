@@ -7,9 +7,10 @@ use mathlib.Core.Logic.{inl}
 use mathlib.Core.List.{List, [], _∷_, map}
 use native.Mathlib.Omega.{arith}
 use lib.IntN.{pos}
-use Rattle.theory.specs.Verdict.{Refusal, within}
+use Rattle.theory.specs.Verdict.{acceptedNumber, Refusal, within}
 use Rattle.theory.proofs.Verdict.{verdict-clear, verdict-both}
 use Rattle.cells.specs.Limits.{suppliers, maxPart}
+use Rattle.cells.specs.Refusals.{shapeRefused, scheduleRefused}
 use Rattle.program.specs.Tables.{modeCount}
 use Rattle.rules.specs.Shape.{badSlice, WholeRows}
 use Rattle.rules.specs.Verdict.{tableRefusals}
@@ -33,31 +34,31 @@ use Rattle.demands.proofs.Calls.{long-bars}
 use Rattle.demands.proofs.Supplier.{good-exactly}
 
 -- where the windows verdict is 0, the code is within its limit, and the windows fit and share no tick
-windows-pass : (L : Windowed) → windowsVerdict L ≡ 0 → CodeFits (L .tables) × Windows L
+windows-pass : (L : Windowed) → windowsVerdict L ≡ acceptedNumber → CodeFits (L .tables) × Windows L
 unfolding windowsVerdict
 windows-pass L e =
     let own : List (Refusal Windowed) = within (λ (L : Windowed). L .tables) longRefusal ∷ windowRefusals in
-    let first : List (Refusal Windowed) = record { number = 1; applies = windowsShapeBad } ∷ map (within (λ (L : Windowed). L .tables)) tableRefusals in
+    let first : List (Refusal Windowed) = record { number = shapeRefused; applies = windowsShapeBad } ∷ map (within (λ (L : Windowed). L .tables)) tableRefusals in
     let c = verdict-clear own L (omega arith) (verdict-both first own L (omega arith) e .1) in
     (long-bars (L .tables) .ok (c .0), windows-bar L .ok (c .1 .0))
 
 -- a supplier is accepted only with its part, and where its run is good
-passes : (L : Asked) → supplierVerdict L .number ≡ 0 → (partVerdict L ≡ 0) × (judged L ≡ supplierVerdict L)
+passes : (L : Asked) → supplierVerdict L .number ≡ acceptedNumber → (partVerdict L ≡ acceptedNumber) × (judged L ≡ supplierVerdict L)
 passes L e = judged-exactly L (supplierVerdict L) (inl e) .0 refl
 
 -- the part that passes has its shape and passes number 13
-part-fits : (L : Asked) → windowsVerdict (windowedOf L) ≡ 0 → partVerdict L ≡ 0
+part-fits : (L : Asked) → windowsVerdict (windowedOf L) ≡ acceptedNumber → partVerdict L ≡ acceptedNumber
     → WholeRows scheduleWidth maxPart (L .part) × Part (L .tables) (L .part) (supplierOf L)
 part-fits L w e =
     let own : List (Refusal Asked) =
-    record { number = 1; applies = λ L. badSlice scheduleWidth maxPart (L .part) }
-    ∷ record { number = 13; applies = λ L. partBad (L .tables) (L .part) (supplierOf L) }
+    record { number = shapeRefused; applies = λ L. badSlice scheduleWidth maxPart (L .part) }
+    ∷ record { number = scheduleRefused; applies = λ L. partBad (L .tables) (L .part) (supplierOf L) }
     ∷ [] in
     let c = verdict-clear own L (omega arith) (sym (part-after L w) ∙ e) in
     (slice-bars scheduleWidth maxPart (L .part) .ok (c .0), part-bars (L .tables) (L .part) (supplierOf L) .ok (c .1 .0))
 
 -- an accepted supplier's worst-case run is good
-worst-good : (L : Asked) → supplierVerdict L .number ≡ 0 → (m : ℕ) → m < modeCount (L .tables)
+worst-good : (L : Asked) → supplierVerdict L .number ≡ acceptedNumber → (m : ℕ) → m < modeCount (L .tables)
     → Good (courseOf L m) (worstCase (courseOf L m)) nothing
 worst-good L e m l =
     let (a, j) = passes L e in

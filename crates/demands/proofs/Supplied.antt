@@ -9,6 +9,7 @@ use native.Mathlib.Omega.{arith}
 use lib.IntN.{ℤ, pos}
 use lib.ListN.{length, replicate}
 use Rattle.theory.specs.Lists.{member}
+use Rattle.theory.specs.Verdict.{acceptedNumber}
 use Rattle.theory.proofs.Lists.{each-length, each-at}
 use Rattle.theory.proofs.Puts.{puts-length}
 use Rattle.cells.specs.Cell.{indexOf, numAt}
@@ -65,7 +66,7 @@ module _ (Y : System) (F : Function) (readings times : ℕ → List ℤ) where
       ∙ takes-at (results P F (u .ports) t) (task P t .outputs) (replicate maxPorts (pos 0)) p l m
 
   -- the premises of the composed run hold at every tick
-  pub premises-met : windowsVerdict (record { tables = Y .tables; windows = Y .windows }) ≡ 0
+  pub premises-met : windowsVerdict (record { tables = Y .tables; windows = Y .windows }) ≡ acceptedNumber
       → ((n : ℕ) → length (readings n) ≡ maxPorts)
       → ((n : ℕ) → length (times n) ≡ maxTasks)
       → ((n t : ℕ) → member t (releasedAt P F readings n) ≡ true → InRange (numAt (times n) t) (task P t .worst))
@@ -89,7 +90,7 @@ module _ (Y : System) (F : Function) (readings times : ℕ → List ℤ) where
           omega (arith, ports-few (Y .tables) (accepted-shaped (Y .tables) (windows-accepted _ w)), output-declared (Y .tables) t p m .0)
 
 -- the worst-case time of a declared task is in range
-worst-in-range : (T : Tables) → programVerdict T ≡ 0 → (t : ℕ) → t < taskCount T
+worst-in-range : (T : Tables) → programVerdict T ≡ acceptedNumber → (t : ℕ) → t < taskCount T
     → InRange (numAt (worstTimes (programOf T)) t) (task (programOf T) t .worst)
 unfolding numAt
 worst-in-range T a t l =
@@ -99,7 +100,8 @@ worst-in-range T a t l =
     rw (e, task-row T t l) (f, omega arith)
 
 -- so worst-case times will do, with any task function and any readings
-pub worst-fed : (T : Tables) → programVerdict T ≡ 0 → (F : Function) (readings : ℕ → List ℤ) → ((n : ℕ) → length (readings n) ≡ maxPorts)
+pub worst-fed : (T : Tables) → programVerdict T ≡ acceptedNumber → (F : Function) (readings : ℕ → List ℤ)
+    → ((n : ℕ) → length (readings n) ≡ maxPorts)
     → Fed (programOf T) F readings (λ n. worstTimes (programOf T))
 worst-fed T a F readings l = record {
   readings-length = l;
@@ -108,7 +110,7 @@ worst-fed T a F readings l = record {
 }
 
 -- and with them every tick is fair
-pub worst-case-fair : (Y : System) → windowsVerdict (record { tables = Y .tables; windows = Y .windows }) ≡ 0
+pub worst-case-fair : (Y : System) → windowsVerdict (record { tables = Y .tables; windows = Y .windows }) ≡ acceptedNumber
     → (F : Function) (readings : ℕ → List ℤ) → ((n : ℕ) → length (readings n) ≡ maxPorts)
     → (n : ℕ) → Fair Y F (supplied Y F readings (λ k. worstTimes (programOf (Y .tables)))) n
 worst-case-fair Y w F readings rl =

@@ -11,11 +11,12 @@ use lib.Dec.{eqb}
 use lib.IntN.{ℤ}
 use lib.ListN.{length}
 use borrow.Author.Tests.{eqb-true, eq-eqb}
-use Rattle.theory.specs.Verdict.{orElse, Keep}
+use Rattle.theory.specs.Verdict.{acceptedNumber, orElse, Keep}
 use Rattle.theory.proofs.Bools.{iff, is-true}
 use Rattle.theory.proofs.Members.{Has, has-those}
 use Rattle.cells.specs.Cell.{indexOf}
 use Rattle.cells.specs.Limits.{maxPart}
+use Rattle.cells.specs.Refusals.{shapeRefused, scheduleRefused}
 use Rattle.program.specs.Tables.{tables, modeCount, taskSupplier, taskWorst}
 use Rattle.program.specs.Units.{rowMisses, isMultiple, units}
 use Rattle.program.specs.Program.{programOf}
@@ -40,7 +41,7 @@ use Rattle.suppliers.proofs.Tasks.{withTasks, part-tasks, break-tasks}
 use Rattle.demands.specs.Supplier.{BreaksAt, SupplierExact, shorter, longer, Domination, Window, ownWindows, Independent}
 use Rattle.demands.proofs.Calls.{part-first, part-kept}
 
-module _ (L : Asked) (a : partVerdict L ≡ 0) where
+module _ (L : Asked) (a : partVerdict L ≡ acceptedNumber) where
   -- no run breaks exactly where every fair run of every mode is good
   all-good : AllGood (λ m. worstBreak (courseOf L m) nothing) (modeCount (L .tables)) 0
       ↔ ((m : ℕ) → m < modeCount (L .tables) → (c : Choice) → WithinWorst (courseOf L m) c → Good (courseOf L m) c nothing)
@@ -78,14 +79,15 @@ domination C c d k r q h l b =
     }
 
 -- the run is good exactly where every fair run of every mode keeps to its windows and terminations
-pub good-exactly : (L : Asked) → partVerdict L ≡ 0
-    → (judged L .number ≡ 0)
+pub good-exactly : (L : Asked) → partVerdict L ≡ acceptedNumber
+    → (judged L .number ≡ acceptedNumber)
     ↔ ((m : ℕ) → m < modeCount (L .tables) → (c : Choice) → WithinWorst (courseOf L m) c → Good (courseOf L m) c nothing)
 good-exactly L a =
     rw (judged-modes L) (Iff·trans (answer-good (λ m. worstBreak (courseOf L m) nothing) (modeCount (L .tables)) 0) (all-good L a))
 
 -- its break is the lowest mode whose worst-case run breaks, and the first break in it
-break-exactly : (L : Asked) → partVerdict L ≡ 0 → (m : ℕ) (b : Break) → (b ≡ none → ⊥) → (judged L ≡ answerOf m b) ↔ BreaksAt L m b
+break-exactly : (L : Asked) → partVerdict L ≡ acceptedNumber → (m : ℕ) (b : Break) → (b ≡ none → ⊥)
+    → (judged L ≡ answerOf m b) ↔ BreaksAt L m b
 break-exactly L a m b d =
     rw (judged-modes L) (Iff·trans (answer-break (λ m. worstBreak (courseOf L m) nothing) (modeCount (L .tables)) 0 m b d) (breaks-at L a m b d))
 
@@ -104,7 +106,7 @@ supplier-exact L = record {
   only-these = only-these L;
 }
   where
-    place : (m : ℕ) (b : Break) → (answerOf m b .number ≡ 0) ⊎ (lastStatic < answerOf m b .number) → (b ≡ none → ⊥)
+    place : (m : ℕ) (b : Break) → (answerOf m b .number ≡ acceptedNumber) ⊎ (lastStatic < answerOf m b .number) → (b ≡ none → ⊥)
         → (supplierVerdict L ≡ answerOf m b) ↔ (Keep partRules L × BreaksAt L m b)
     place m b o d = (
       λ e. let (z, j) = judged-exactly L (answerOf m b) o .0 e in (part-kept L .0 z, break-exactly L z m b d .0 j),
@@ -152,13 +154,14 @@ module _ (L : Asked) (x W : List ℤ) (n : length (L .tables .tasks) ≡ length 
       answerFrom (λ m. break-tasks (L .tables) x (supplierOf L) n p q (L .windows) W (L .part) m (window-same (L .windows) W (supplierOf L) m w) i)
       (length (programOf (L .tables) .modes)) 0
 
-  changed-same : windowsVerdict (record { tables = L .tables; windows = L .windows }) ≡ 0
-      → windowsVerdict (record { tables = withTasks (L .tables) x; windows = W }) ≡ 0 → supplierVerdict L ≡ supplierVerdict (changed L x W)
+  changed-same : windowsVerdict (record { tables = L .tables; windows = L .windows }) ≡ acceptedNumber
+      → windowsVerdict (record { tables = withTasks (L .tables) x; windows = W }) ≡ acceptedNumber
+      → supplierVerdict L ≡ supplierVerdict (changed L x W)
   unfolding supplierVerdict
   changed-same a b =
       let e : partVerdict L ≡ partVerdict (changed L x W) =
       part-after L a
-      ∙ (λ i. orElse (badSlice scheduleWidth maxPart (L .part)) 1 (orElse (part-tasks (L .tables) x (supplierOf L) n p q (L .part) (supplierOf L) i) 13 0))
+      ∙ (λ i. orElse (badSlice scheduleWidth maxPart (L .part)) shapeRefused (orElse (part-tasks (L .tables) x (supplierOf L) n p q (L .part) (supplierOf L) i) scheduleRefused acceptedNumber))
       ∙ sym (part-after (changed L x W) b) in
       λ i. elim (e i) as (λ n. Answer) [ zero ↦ judged-same i | suc n ↦ record { number = suc n; mode = 0; tick = 0 } ]
 
@@ -167,7 +170,7 @@ pub independent : Independent
 independent L K e f h w a b =
     changed-same L (K .tables .tasks) (K .windows) (h .tasks) (h .suppliers) (h .own-worst)
     (w ∙ ap (λ z. ownWindows (K .windows) (indexOf z)) (sym f)) a
-    (subst (λ A. windowsVerdict (record { tables = A .tables; windows = A .windows }) ≡ 0) (sym same) b)
+    (subst (λ A. windowsVerdict (record { tables = A .tables; windows = A .windows }) ≡ acceptedNumber) (sym same) b)
     ∙ ap supplierVerdict same
   where
     same : changed L (K .tables .tasks) (K .windows) ≡ K

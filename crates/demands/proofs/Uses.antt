@@ -3,6 +3,7 @@ use Prim.Native.Nat.{ℕ, _<_}
 use mathlib.Core.Path.{_≡_, refl}
 use mathlib.Core.Logic.{inl, inr}
 use native.Mathlib.Omega.{arith}
+use Rattle.theory.specs.Verdict.{acceptedNumber}
 use Rattle.machine.specs.Advance.{advanceVerdict, advanceAnswer}
 use Rattle.machine.specs.Comes.{Static}
 use Rattle.machine.proofs.Uses as uses
@@ -43,6 +44,6 @@ tasks-only L times t same =
 pub refused-uses-none : RefusedUsesNone
 refused-uses-none L X s l = refused-same L X l (some (advanceAnswer L .number) s (advance-judged L (advanceAnswer L .number) s .0 refl))
   where
-    some : (n : ℕ) → Static n → advanceVerdict L ≡ n → 0 < advanceVerdict L
+    some : (n : ℕ) → Static n → advanceVerdict L ≡ n → acceptedNumber < advanceVerdict L
     some n (inl w) e = omega (arith, e, w .0)
     some n (inr w) e = omega (arith, e, w)

@@ -6,7 +6,7 @@ use mathlib.Core.List.{List, _∷_, map}
 use native.Mathlib.Omega.{arith}
 use lib.ListN.{length, drop, length-append, length-drop}
 use lib.Seq.{drop-at}
-use Rattle.theory.specs.Verdict.{Refusal, within}
+use Rattle.theory.specs.Verdict.{acceptedNumber, Refusal, within}
 use Rattle.theory.proofs.Bools.{bars-lt, _or_}
 use Rattle.theory.proofs.Verdict.{verdict-clear, verdict-both}
 use Rattle.cells.specs.Limits.{maxCode, wordsEach}
@@ -37,11 +37,11 @@ missing-reading T a d l k w = missing-guard T a d l k w
 own : List (Refusal Compiling)
 own = map (within (λ (L : Compiling). L .tables)) (shapeRefusal ∷ tableRefusals)
 
-pub compiled-accepted : (L : Compiling) → compileVerdict L ≡ 0 → programVerdict (L .tables) ≡ 0
+pub compiled-accepted : (L : Compiling) → compileVerdict L ≡ acceptedNumber → programVerdict (L .tables) ≡ acceptedNumber
 unfolding compileVerdict
 compiled-accepted L e = lent-accepted (λ (L : Compiling). L .tables) (λ L. shapeBad (L .tables)) sliceRefusals L (λ s. s) e
 
-fits : (L : Compiling) → compileVerdict L ≡ 0 → (length (listingOf (L .tables)) ≤ maxCode) × (wordsEach * length (listingOf (L .tables)) ≤ length (L .slice))
+fits : (L : Compiling) → compileVerdict L ≡ acceptedNumber → (length (listingOf (L .tables)) ≤ maxCode) × (wordsEach * length (listingOf (L .tables)) ≤ length (L .slice))
 unfolding compileVerdict own codeLong sliceShort
 fits L e =
     (bars-lt maxCode (length (listingOf (L .tables))) or bars-lt (length (L .slice)) (wordsEach * length (listingOf (L .tables)))) .ok
@@ -57,7 +57,7 @@ listing-written L z = record {
   same-length = rw (e, compileSlice) (simp (length-append, length-drop) (omega (arith, words, fits L e .1)));
 }
   where
-    e : compileVerdict L ≡ 0
+    e : compileVerdict L ≡ acceptedNumber
     e = compile-passes L z
 
     os : List Op

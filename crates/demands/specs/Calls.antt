@@ -6,7 +6,7 @@
 use Prim.Native.Nat.{ℕ}
 use mathlib.Core.Path.{_≡_}
 use mathlib.Core.Logic.{_⊎_, _↔_}
-use Rattle.theory.specs.Verdict.{First, Keep}
+use Rattle.theory.specs.Verdict.{acceptedNumber, First, Keep}
 use Rattle.program.specs.Tables.{Tables}
 use Rattle.rules.specs.Verdict.{programRules}
 use Rattle.code.specs.Compile.{Compiling, compileRules, compileAnswer}
@@ -26,13 +26,13 @@ WindowsExact = (L : Windowed) (n : ℕ) → (windowsVerdict L ≡ n) ↔ First w
 -- an advance: 1 to 11, 13 and 21 before anything runs; then 16 to 20, each under its condition in Machine.antt
 pub record AdvanceExact (L : Advance) : Type 0 where
   pub judged : (n : ℕ) → Static n → (advanceAnswer L .number ≡ n) ↔ First advanceRules L n
-  pub accepted : (advanceAnswer L .number ≡ 0) ↔ (Keep advanceRules L × TickPasses L)
-  pub only-these : (advanceAnswer L .number ≡ 0) ⊎ (Static (advanceAnswer L .number) ⊎ Arising (advanceAnswer L .number))
+  pub accepted : (advanceAnswer L .number ≡ acceptedNumber) ↔ (Keep advanceRules L × TickPasses L)
+  pub only-these : (advanceAnswer L .number ≡ acceptedNumber) ⊎ (Static (advanceAnswer L .number) ⊎ Arising (advanceAnswer L .number))
   -- refused, it hands the state back as it was
-  pub kept : (advanceAnswer L .number ≡ 0 → ⊥) → advanceAnswer L .state ≡ L .state
+  pub kept : (advanceAnswer L .number ≡ acceptedNumber → ⊥) → advanceAnswer L .state ≡ L .state
 
 -- a fresh state: 1 to 10; "refused, it is all 0", else it "has the ports' first values in the first two and 0 elsewhere"
 pub record FreshExact (T : Tables) : Type 0 where
   pub number : (n : ℕ) → (freshAnswer T .number ≡ n) ↔ First programRules T n
-  pub refused : (freshAnswer T .number ≡ 0 → ⊥) → AllZero (freshAnswer T .state)
-  pub accepted : freshAnswer T .number ≡ 0 → Fresh T (freshAnswer T .state)
+  pub refused : (freshAnswer T .number ≡ acceptedNumber → ⊥) → AllZero (freshAnswer T .state)
+  pub accepted : freshAnswer T .number ≡ acceptedNumber → Fresh T (freshAnswer T .state)

@@ -8,7 +8,9 @@ use mathlib.Core.List.{List}
 use mathlib.Core.Logic.{_⊎_}
 use lib.IntN.{ℤ}
 use Rattle.theory.specs.Lists.{member}
+use Rattle.theory.specs.Verdict.{acceptedNumber}
 use Rattle.cells.specs.Cell.{numAt}
+use Rattle.cells.specs.Refusals.{timeRefused, overrunRefused}
 use Rattle.program.specs.Tables.{taskCount}
 use Rattle.program.specs.Program.{Program, programOf, task, mode, dueTasks}
 use Rattle.rules.specs.Fields.{InRange}
@@ -29,8 +31,9 @@ module _ (L : Compiling) (readings times : List ℤ) (m k : ℕ) (s : State) whe
 
   pub record InstantDone : Type 0 where
     -- it is never refused with 19 or 20; where every time lent is in its range, only with 17
-    pub only-two : (n : ℕ) → instantOf ≡ stop n → (n ≡ 16) ⊎ (n ≡ 17)
-    pub only-late : ((t : ℕ) → t < taskCount (L .tables) → InRange (numAt times t) (task P t .worst)) → (n : ℕ) → instantOf ≡ stop n → n ≡ 17
+    pub only-two : (n : ℕ) → instantOf ≡ stop n → (n ≡ timeRefused) ⊎ (n ≡ overrunRefused)
+    pub only-late : ((t : ℕ) → t < taskCount (L .tables) → InRange (numAt times t) (task P t .worst))
+        → (n : ℕ) → instantOf ≡ stop n → n ≡ overrunRefused
     -- where the tasks that it ends and those that it releases have no time left, and the times of the latter are in range, it does the
     -- seven steps of document 01 (`done`, in compiled/specs): the ports are those of Giotto's instant
     pub does : ((t : ℕ) → member t (dueTasks (mode P m) k) ≡ true → leftOf (s .left) t ≡ 0)
@@ -41,6 +44,6 @@ module _ (L : Compiling) (readings times : List ℤ) (m k : ℕ) (s : State) whe
 -- for every program that is compiled
 abbrev pub CompiledInstant : Type 0
 CompiledInstant =
-    (L : Compiling) → compileAnswer L .number ≡ 0
+    (L : Compiling) → compileAnswer L .number ≡ acceptedNumber
     → (readings times : List ℤ) (m k : ℕ) (s : State) → AtBlock (L .tables) m k s
     → InstantDone L readings times m k s

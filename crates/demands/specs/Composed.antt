@@ -6,6 +6,7 @@ use mathlib.Core.Path.{_≡_}
 use mathlib.Core.List.{List}
 use lib.IntN.{ℤ, pos}
 use Rattle.theory.specs.Lists.{cat}
+use Rattle.theory.specs.Verdict.{acceptedNumber}
 use Rattle.cells.specs.Limits.{suppliers}
 use Rattle.program.specs.Tables.{Tables}
 use Rattle.program.specs.Program.{programOf}
@@ -31,10 +32,10 @@ compiling Y = record { tables = Y .tables; slice = Y .slice }
 
 -- program and windows accepted, the program compiled, each supplier's code accepted alone
 pub record Accepted (Y : System) : Type 0 where
-  pub windows : windowsVerdict (record { tables = Y .tables; windows = Y .windows }) ≡ 0
-  pub compiled : compileAnswer (compiling Y) .number ≡ 0
+  pub windows : windowsVerdict (record { tables = Y .tables; windows = Y .windows }) ≡ acceptedNumber
+  pub compiled : compileAnswer (compiling Y) .number ≡ acceptedNumber
   pub suppliers : (s : ℕ) → s < suppliers
-      → supplierVerdict (record { tables = Y .tables; windows = Y .windows; part = Y .parts s; supplier = pos s }) .number ≡ 0
+      → supplierVerdict (record { tables = Y .tables; windows = Y .windows; part = Y .parts s; supplier = pos s }) .number ≡ acceptedNumber
 
 module _ (Y : System) where
   -- the parts one after the other, and the E code that compiling left
@@ -68,14 +69,14 @@ module _ (Y : System) where
 
     -- What is promised of tick n: it is not refused, and after it all ports hold Giotto's values
     pub record Right (n : ℕ) : Type 0 where
-      pub accepted : advanced (lents n) (stateAt lents n) .number ≡ 0
+      pub accepted : advanced (lents n) (stateAt lents n) .number ≡ acceptedNumber
       pub ports : stateAt lents (suc n) .ports ≡ portsAt (programOf (Y .tables)) F readings n
 
 -- The composed run is Giotto's: the fresh state is given, and every tick is right as long as all ticks up to it are fair
 abbrev pub ComposedRun : Type 0
 ComposedRun =
     (Y : System) → Accepted Y
-    → (freshAnswer (Y .tables) .number ≡ 0)
+    → (freshAnswer (Y .tables) .number ≡ acceptedNumber)
     × ((F : Function) (lents : ℕ → Lent) (n : ℕ) → ((k : ℕ) → k ≤ n → Fair Y F lents k) → Right Y F lents n)
 
 -- So values do not hang on who computes when: two accepted systems of one program, with other windows, other schedule code, other execution

@@ -6,6 +6,7 @@ use mathlib.Core.Path.{_≡_}
 use mathlib.Core.Bool.{false}
 use mathlib.Core.List.{List}
 use lib.IntN.{ℤ}
+use Rattle.theory.specs.Verdict.{acceptedNumber}
 use Rattle.cells.specs.Limits.{maxPorts}
 use Rattle.program.specs.Tables.{Tables, portFirst, startMode}
 use Rattle.program.specs.Program.{programOf}
@@ -18,7 +19,7 @@ use Rattle.giotto.specs.Successor.{Valuation, Successor, Same}
 -- any two successors of a configuration agree in time, mode, unit, active tasks and every port
 abbrev pub SuccessorOne : Type 0
 SuccessorOne =
-    (T : Tables) → programVerdict T ≡ 0
+    (T : Tables) → programVerdict T ≡ acceptedNumber
     → (result : ℕ → ℕ → ℤ) (readings : Valuation) (C C′ C″ : Configuration)
     → Successor T result readings C C′ → Successor T result readings C C″ → Same C′ C″
 
@@ -44,4 +45,4 @@ module _ (T : Tables) (F : Function) (readings : ℕ → List ℤ) where
 
 -- the execution of an accepted program is one by 001
 abbrev pub ExecutionSucceeds : Type 0
-ExecutionSucceeds = (T : Tables) → programVerdict T ≡ 0 → (F : Function) (readings : ℕ → List ℤ) → Executes T F readings
+ExecutionSucceeds = (T : Tables) → programVerdict T ≡ acceptedNumber → (F : Function) (readings : ℕ → List ℤ) → Executes T F readings

@@ -7,6 +7,7 @@ use mathlib.Core.List.{List}
 use lib.IntN.{ℤ, pos}
 use lib.ListN.{length, replicate}
 use Rattle.theory.specs.Lists.{those, gather, member, Put, puts}
+use Rattle.theory.specs.Verdict.{acceptedNumber}
 use Rattle.cells.specs.Cell.{numAt}
 use Rattle.cells.specs.Limits.{maxPorts, maxTasks}
 use Rattle.program.specs.Tables.{Tables}
@@ -62,7 +63,7 @@ pub record Fed (P : Program) (F : Function) (readings times : ℕ → List ℤ) 
 -- That is what is asked for: active tasks share no output
 abbrev pub GivenMet : Type 0
 GivenMet =
-    (T : Tables) → programVerdict T ≡ 0 → (F : Function) (readings times : ℕ → List ℤ) → Fed (programOf T) F readings times
+    (T : Tables) → programVerdict T ≡ acceptedNumber → (F : Function) (readings times : ℕ → List ℤ) → Fed (programOf T) F readings times
     → (n : ℕ) → Given (programOf T) F (lentBy (programOf T) F readings times) n
 
 -- So every accepted system runs as Giotto's execution, for any task function, any readings and any times in range, with the results that

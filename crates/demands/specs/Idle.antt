@@ -5,6 +5,7 @@ use mathlib.Core.Path.{_≡_}
 use mathlib.Core.List.{[]}
 use mathlib.Core.Logic.{_⊎_}
 use lib.IntN.{pos}
+use Rattle.theory.specs.Verdict.{acceptedNumber}
 use Rattle.cells.specs.Limits.{suppliers}
 use Rattle.program.specs.Tables.{taskCount, taskSupplier}
 use Rattle.code.specs.Compile.{compileAnswer}
@@ -20,8 +21,8 @@ pub record Idle (L : Asked) : Type 0 where
 -- where program and windows are accepted, it is too
 abbrev pub IdleAccepted : Type 0
 IdleAccepted =
-    (L : Asked) → windowsVerdict (windowedOf L) ≡ 0 → supplierOf L < suppliers → Idle L
-    → supplierVerdict L ≡ record { number = 0; mode = 0; tick = 0 }
+    (L : Asked) → windowsVerdict (windowedOf L) ≡ acceptedNumber → supplierOf L < suppliers → Idle L
+    → supplierVerdict L ≡ record { number = acceptedNumber; mode = 0; tick = 0 }
 
 -- what is asked about supplier s of a system
 abbrev pub askedOf : System → ℕ → Asked
@@ -31,7 +32,7 @@ askedOf Y s = record { tables = Y .tables; windows = Y .windows; part = Y .parts
 abbrev pub AcceptedOf : Type 0
 AcceptedOf =
     (Y : System)
-    → windowsVerdict (record { tables = Y .tables; windows = Y .windows }) ≡ 0
-    → compileAnswer (compiling Y) .number ≡ 0
-    → ((s : ℕ) → s < suppliers → Idle (askedOf Y s) ⊎ (supplierVerdict (askedOf Y s) .number ≡ 0))
+    → windowsVerdict (record { tables = Y .tables; windows = Y .windows }) ≡ acceptedNumber
+    → compileAnswer (compiling Y) .number ≡ acceptedNumber
+    → ((s : ℕ) → s < suppliers → Idle (askedOf Y s) ⊎ (supplierVerdict (askedOf Y s) .number ≡ acceptedNumber))
     → Accepted Y

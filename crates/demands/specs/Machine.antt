@@ -6,9 +6,10 @@ use mathlib.Core.Path.{_≡_}
 use mathlib.Core.List.{List, [], _∷_}
 use mathlib.Core.Logic.{_↔_}
 use lib.ListN.{length, getD}
-use Rattle.theory.specs.Verdict.{Keep}
+use Rattle.theory.specs.Verdict.{acceptedNumber, Keep}
 use Rattle.cells.specs.Cell.{wordAt}
 use Rattle.cells.specs.Limits.{wordsEach}
+use Rattle.cells.specs.Refusals.{timeRefused, overrunRefused, collisionRefused, faultyRefused, countRefused}
 use Rattle.code.specs.Op.{Op, faulty, words, instructions}
 use Rattle.machine.specs.declared.State.{State}
 use Rattle.machine.specs.Advance.{Advance, advanceRules, advanceAnswer}
@@ -25,35 +26,35 @@ WordsExact =
 
 -- 19: the instant comes to a faulty instruction, or runs off the end
 abbrev pub FaultyExact : Type 0
-FaultyExact = (L : Advance) → (advanceAnswer L .number ≡ 19) ↔ (Keep advanceRules L × Faults L)
+FaultyExact = (L : Advance) → (advanceAnswer L .number ≡ faultyRefused) ↔ (Keep advanceRules L × Faults L)
 
 -- 16: it comes to one that is not faulty, and releases a task with a time outside 1..worst case
 abbrev pub TimeExact : Type 0
-TimeExact = (L : Advance) → (advanceAnswer L .number ≡ 16) ↔ (Keep advanceRules L × TimeWrong L)
+TimeExact = (L : Advance) → (advanceAnswer L .number ≡ timeRefused) ↔ (Keep advanceRules L × TimeWrong L)
 
 -- 17: it comes to one that is neither, and ends or releases a task that is still running
 abbrev pub OverrunExact : Type 0
-OverrunExact = (L : Advance) → (advanceAnswer L .number ≡ 17) ↔ (Keep advanceRules L × Overruns L)
+OverrunExact = (L : Advance) → (advanceAnswer L .number ≡ overrunRefused) ↔ (Keep advanceRules L × Overruns L)
 
 -- 20: it runs more instructions than the code has
 abbrev pub CountExact : Type 0
-CountExact = (L : Advance) → (advanceAnswer L .number ≡ 20) ↔ (Keep advanceRules L × RunsOn L)
+CountExact = (L : Advance) → (advanceAnswer L .number ≡ countRefused) ↔ (Keep advanceRules L × RunsOn L)
 
 -- 18: two suppliers run in its tick
 abbrev pub CollisionExact : Type 0
-CollisionExact = (L : Advance) → (advanceAnswer L .number ≡ 18) ↔ (Keep advanceRules L × Collides L)
+CollisionExact = (L : Advance) → (advanceAnswer L .number ≡ collisionRefused) ↔ (Keep advanceRules L × Collides L)
 
 -- the state handed back differs from the one before only where document 01 says
 abbrev pub AdvanceMoves : Type 0
-AdvanceMoves = (L : Advance) → advanceAnswer L .number ≡ 0 → Advances L (advanceAnswer L .state)
+AdvanceMoves = (L : Advance) → advanceAnswer L .number ≡ acceptedNumber → Advances L (advanceAnswer L .state)
 
 -- "after 4294967295 comes 0": the time stamp moves by one
 abbrev pub TimeMoves : Type 0
-TimeMoves = (L : Advance) → advanceAnswer L .number ≡ 0 → advanceAnswer L .state .time ≡ (L .state .time + 1) % 2 ^ 32
+TimeMoves = (L : Advance) → advanceAnswer L .number ≡ acceptedNumber → advanceAnswer L .state .time ≡ (L .state .time + 1) % 2 ^ 32
 
 -- an accepted advance in which no tick of the unit remained: its instant came to a `return` that is not faulty, in no more
 -- instructions than the lent code has
 abbrev pub InstantCounted : Type 0
 InstantCounted =
-    (L : Advance) → advanceAnswer L .number ≡ 0 → L .state .remaining ≡ 0
+    (L : Advance) → advanceAnswer L .number ≡ acceptedNumber → L .state .remaining ≡ 0
     → (u : State) × (w : Returns L u) × (w .reaches .before < length (L .code) / wordsEach)

@@ -5,6 +5,7 @@ use Prim.Native.Nat.{ℕ, suc, _<_}
 use mathlib.Core.Path.{_≡_}
 use mathlib.Core.List.{List}
 use lib.IntN.{ℤ}
+use Rattle.theory.specs.Verdict.{acceptedNumber}
 use Rattle.program.specs.Tables.{Tables}
 use Rattle.program.specs.Program.{programOf}
 use Rattle.code.specs.Op.{emit}
@@ -26,7 +27,7 @@ RelationKept =
     → Suited T (emit (listingOf T)) S F n C s X
     → Related T W S F n C s
     → let a = advanceAnswer (byCompiled T S X s) in
-    (a .number ≡ 0) × Related T W S F (suc n) (pass (programOf T) F n (X .readings) C) (a .state)
+    (a .number ≡ acceptedNumber) × Related T W S F (suc n) (pass (programOf T) F n (X .readings) C) (a .state)
 
 -- and holds before every tick of a composed run
 abbrev pub RelatedAlways : Type 0

@@ -11,7 +11,8 @@ use lib.Dec.{eqb}
 use lib.IntN.{ℤ}
 use lib.ListN.{length}
 use Rattle.theory.specs.Lists.{those, member}
-use Rattle.theory.specs.Verdict.{First, Keep}
+use Rattle.theory.specs.Verdict.{acceptedNumber, First, Keep}
+use Rattle.cells.specs.Refusals.{shapeRefused, outsideRefused, lateRefused}
 use Rattle.program.specs.Tables.{Tables, modeCount, taskSupplier, taskWorst}
 use Rattle.runs.specs.Tick.{leftOf, Place, runsIn}
 use Rattle.runs.specs.Windows.{windowCount, winSupplier, winMode, winFrom, winTo}
@@ -29,21 +30,22 @@ pub record BreaksAt (L : Asked) (m : ℕ) (b : Break) : Type 0 where
 -- What a supplier's verdict answers, the place included
 pub record SupplierExact (L : Asked) : Type 0 where
   -- 1 to 13, without a place: the first of these rules that is broken
-  pub refused : (n : ℕ) → 1 ≤ n → n ≤ lastStatic → (supplierVerdict L ≡ record { number = n; mode = 0; tick = 0 }) ↔ First partRules L n
+  pub refused : (n : ℕ) → shapeRefused ≤ n → n ≤ lastStatic
+      → (supplierVerdict L ≡ record { number = n; mode = 0; tick = 0 }) ↔ First partRules L n
   -- program and windows accepted, the part well-formed: accepted exactly when, in every mode, reached or not, and for every choice of
   -- an execution time from 1 to the worst case for every release, every tick in which the supplier runs lies in one of its windows
   -- and every task has ended at each of its termination instants
-  pub accepted : (supplierVerdict L ≡ record { number = 0; mode = 0; tick = 0 })
+  pub accepted : (supplierVerdict L ≡ record { number = acceptedNumber; mode = 0; tick = 0 })
       ↔ (Keep partRules L
       × ((m : ℕ) → m < modeCount (L .tables) → (c : Choice) → WithinWorst (courseOf L m) c → Good (courseOf L m) c nothing))
   -- 14 and 15 exactly at their place
   pub outside-at : (m t : ℕ)
-      → (supplierVerdict L ≡ record { number = 14; mode = m; tick = t }) ↔ (Keep partRules L × BreaksAt L m (outside t))
+      → (supplierVerdict L ≡ record { number = outsideRefused; mode = m; tick = t }) ↔ (Keep partRules L × BreaksAt L m (outside t))
   pub late-at : (m t : ℕ)
-      → (supplierVerdict L ≡ record { number = 15; mode = m; tick = t }) ↔ (Keep partRules L × BreaksAt L m (late t))
+      → (supplierVerdict L ≡ record { number = lateRefused; mode = m; tick = t }) ↔ (Keep partRules L × BreaksAt L m (late t))
   -- there is no other answer: "only 14 and 15 add a place, 0 and 0 otherwise"
   pub only-these : ((supplierVerdict L .number ≤ lastStatic) × (supplierVerdict L .mode ≡ 0) × (supplierVerdict L .tick ≡ 0))
-      ⊎ ((supplierVerdict L .number ≡ 14) ⊎ (supplierVerdict L .number ≡ 15))
+      ⊎ ((supplierVerdict L .number ≡ outsideRefused) ⊎ (supplierVerdict L .number ≡ lateRefused))
 
 -- The worst case decides because a shorter run is dominated. Two runs of unit k of a course, of choice c from the remaining times r
 -- and of choice d from q:
@@ -101,6 +103,6 @@ Independent =
     (L K : Asked) → L .part ≡ K .part → L .supplier ≡ K .supplier
     → SameFor (supplierOf L) (L .tables) (K .tables)
     → ownWindows (L .windows) (supplierOf L) ≡ ownWindows (K .windows) (supplierOf K)
-    → windowsVerdict (windowedOf L) ≡ 0
-    → windowsVerdict (windowedOf K) ≡ 0
+    → windowsVerdict (windowedOf L) ≡ acceptedNumber
+    → windowsVerdict (windowedOf K) ≡ acceptedNumber
     → supplierVerdict L ≡ supplierVerdict K

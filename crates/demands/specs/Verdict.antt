@@ -5,7 +5,7 @@ use Prim.Native.Nat.{ℕ, _*_, _≤_, _<_}
 use mathlib.Core.Path.{_≡_}
 use mathlib.Core.Logic.{_↔_}
 use lib.ListN.{length, drop}
-use Rattle.theory.specs.Verdict.{First, Keep}
+use Rattle.theory.specs.Verdict.{acceptedNumber, First, Keep}
 use Rattle.cells.specs.Reading.{noReading, Inside}
 use Rattle.cells.specs.Limits.{maxCode, wordsEach}
 use Rattle.program.specs.Tables.{Tables, driverCount, guardKind, guardLow, guardHigh, kindInterval}
@@ -20,12 +20,12 @@ abbrev pub VerdictExact : Type 0
 VerdictExact = (T : Tables) → (n : ℕ) → (programVerdict T ≡ n) ↔ First programRules T n
 
 abbrev pub AcceptedExactly : Type 0
-AcceptedExactly = (T : Tables) → (programVerdict T ≡ 0) ↔ Keep programRules T
+AcceptedExactly = (T : Tables) → (programVerdict T ≡ acceptedNumber) ↔ Keep programRules T
 
 -- no interval guard of an accepted program holds for a missing reading, but the one from no-reading to no-reading
 abbrev pub MissingReading : Type 0
 MissingReading =
-    (T : Tables) → programVerdict T ≡ 0 → (d : ℕ) → d < driverCount T → guardKind T d ≡ kindInterval
+    (T : Tables) → programVerdict T ≡ acceptedNumber → (d : ℕ) → d < driverCount T → guardKind T d ≡ kindInterval
     → Inside (guardLow T d) noReading (guardHigh T d) → (guardLow T d ≡ noReading) × (guardHigh T d ≡ noReading)
 
 -- compiling, not refused: the length is 01's rule, the words written are those of the listing, the rest of the slice is as before
@@ -37,8 +37,9 @@ pub record Compiles (L : Compiling) : Type 0 where
   pub same-length : length (compileSlice L) ≡ length (L .slice)
 
 abbrev pub ListingWritten : Type 0
-ListingWritten = (L : Compiling) → compileAnswer L .number ≡ 0 → Compiles L
+ListingWritten = (L : Compiling) → compileAnswer L .number ≡ acceptedNumber → Compiles L
 
 -- refused: nothing is written, and the length is 0
 abbrev pub RefusalKeeps : Type 0
-RefusalKeeps = (L : Compiling) → (compileAnswer L .number ≡ 0 → ⊥) → (compileSlice L ≡ L .slice) × (compileAnswer L .length ≡ 0)
+RefusalKeeps =
+    (L : Compiling) → (compileAnswer L .number ≡ acceptedNumber → ⊥) → (compileSlice L ≡ L .slice) × (compileAnswer L .length ≡ 0)

@@ -9,6 +9,7 @@ use mathlib.Core.Option.{some}
 use native.Mathlib.Nat.{div-mul-cancel}
 use lib.IntN.{ℤ}
 use Rattle.theory.specs.Lists.{member}
+use Rattle.theory.specs.Verdict.{acceptedNumber}
 use Rattle.theory.proofs.Bools.{is-true}
 use Rattle.theory.proofs.Due.{due-first, due-whole}
 use Rattle.theory.proofs.Members.{member-says}
@@ -38,7 +39,7 @@ module _ (T : Tables) where
   pub input-of : (t p : ℕ) → t < taskCount T → member p (task (programOf T) t .inputs) ≡ true → Input T t p
   input-of t p l m = port-of input t p (subst (λ K. member p (K .inputs) ≡ true) (task-row T t l) m)
 
-module _ (T : Tables) (a : programVerdict T ≡ 0) where
+module _ (T : Tables) (a : programVerdict T ≡ acceptedNumber) where
   -- a task that is due is one of the mode's tasks
   pub due-of-mode : (m k t : ℕ) → m < modeCount T → member t (dueTasks (mode (programOf T) m) k) ≡ true
       → member t (dueTasks (mode (programOf T) m) 0) ≡ true

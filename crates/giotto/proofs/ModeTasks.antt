@@ -9,6 +9,7 @@ use mathlib.Core.Option.{Option, none, some}
 use lib.Dec.{eqb}
 use lib.IntN.{ℤ}
 use Rattle.theory.specs.Lists.{member}
+use Rattle.theory.specs.Verdict.{acceptedNumber}
 use Rattle.theory.proofs.Bools.{clash, is-true, says-not, says-and, says-or, says-itself}
 use Rattle.theory.proofs.Members.{member-keep}
 use Rattle.program.specs.Tables.{Tables, taskCount, modeCount}
@@ -21,7 +22,7 @@ use Rattle.giotto.proofs.Switching.{entered}
 use Rattle.giotto.proofs.Released.{execution-mode}
 use Rattle.giotto.proofs.Due.{due-of-mode, tasks-one, switch-all}
 
-module _ (T : Tables) (a : programVerdict T ≡ 0) where
+module _ (T : Tables) (a : programVerdict T ≡ acceptedNumber) where
   abbrev P : Program
   P = programOf T
 

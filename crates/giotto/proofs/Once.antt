@@ -7,6 +7,7 @@ use mathlib.Core.List.{List, [], _∷_}
 use mathlib.Core.Logic.{inl, inr}
 use native.Mathlib.Omega.{arith}
 use Rattle.theory.specs.Lists.{those, Every, member}
+use Rattle.theory.specs.Verdict.{acceptedNumber}
 use Rattle.theory.proofs.Bools.{is-false, says-eq, says-itself, _and_}
 use Rattle.theory.proofs.Lists.{every-those}
 use Rattle.theory.proofs.Members.{Has, member-says}
@@ -50,7 +51,7 @@ unfolding rowDue
 of-mode T m k i e = (says-eq (invMode T i) m and says-itself (due (units T m) (invFrequency T i) k)) .yes e .0
 
 -- no task is due twice: rule 6 keeps a mode from naming one in two rows
-pub due-once : (T : Tables) → programVerdict T ≡ 0 → (m k : ℕ) → m < modeCount T → Distinct (dueTasks (mode (programOf T) m) k)
+pub due-once : (T : Tables) → programVerdict T ≡ acceptedNumber → (m k : ℕ) → m < modeCount T → Distinct (dueTasks (mode (programOf T) m) k)
 due-once T a m k l =
     subst Distinct (sym (due-task-rows T m k l))
     (those-once (rowDue invocationWidth (T .invocations) m (units T m) k) (invTask T) (invocationCount T) 0

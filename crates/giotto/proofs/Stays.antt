@@ -8,6 +8,7 @@ use native.Mathlib.Omega.{arith}
 use lib.IntN.{ℤ}
 use lib.ListN.{length}
 use Rattle.theory.specs.Lists.{member}
+use Rattle.theory.specs.Verdict.{acceptedNumber}
 use Rattle.theory.proofs.Bools.{clash, is-true}
 use Rattle.theory.proofs.Puts.{puts-length}
 use Rattle.theory.proofs.Lists.{map-same}
@@ -30,7 +31,7 @@ use Rattle.giotto.proofs.Inputs.{inputs-next}
 use Rattle.giotto.proofs.Active.{enabled-says}
 use Rattle.giotto.proofs.Due.{input-of}
 
-module _ (T : Tables) (a : programVerdict T ≡ 0) (result : ℕ → ℕ → ℤ) (readings : List ℤ) (C : Configuration)
+module _ (T : Tables) (a : programVerdict T ≡ acceptedNumber) (result : ℕ → ℕ → ℤ) (readings : List ℤ) (C : Configuration)
     (all : length (C .ports) ≡ maxPorts) (m : C .mode < modeCount T) where
   -- the ports after an instant in which no switch is taken
   abbrev stayed : List ℤ

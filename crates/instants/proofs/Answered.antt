@@ -9,8 +9,10 @@ use lib.IntN.{ℤ}
 use lib.ListN.{set}
 use borrow.Author.Tests.{le-leb, lt-leb}
 use Rattle.theory.specs.Lists.{puts}
+use Rattle.theory.specs.Verdict.{acceptedNumber}
 use Rattle.cells.specs.Cell.{nameOf, rowsIn}
 use Rattle.cells.specs.Limits.{maxPorts, maxTasks, maxDrivers, firstOutputCall, firstSensorCall}
+use Rattle.cells.specs.Refusals.{overrunRefused, faultyRefused}
 use Rattle.cells.proofs.Names.{name-small}
 use Rattle.program.specs.Tables.{Tables, portWidth, portCount, sensor, output, taskWidth, taskCount, driverWidth, driverCount}
 use Rattle.program.specs.Sets.{isKind}
@@ -46,8 +48,11 @@ module _ (P : Program) (readings times : List ℤ) (s : State) (c : Call) where
   -- what the two tests decide
   abbrev pub answered : Bool → Bool → Advanced
   answered nothing running = elim nothing [
-    | true ↦ record { number = 19; state = s }
-    | false ↦ elim running [ true ↦ record { number = 17; state = s } | false ↦ record { number = 0; state = called P readings times s c } ]
+    | true ↦ record { number = faultyRefused; state = s }
+    | false ↦ elim running [
+      | true ↦ record { number = overrunRefused; state = s }
+      | false ↦ record { number = acceptedNumber; state = called P readings times s c }
+    ]
   ]
 
   -- it is what the call answers
@@ -56,38 +61,39 @@ module _ (P : Program) (readings times : List ℤ) (s : State) (c : Call) where
   answered-call = refl
 
   -- 19: it names nothing
-  pub call-nothing : namesNothing P c ≡ true → record { number = 19; state = s } ≡ callAnswer P readings times s c
+  pub call-nothing : namesNothing P c ≡ true → record { number = faultyRefused; state = s } ≡ callAnswer P readings times s c
   call-nothing e = (λ i. answered (sym e i) (stillCalled s c)) ∙ answered-call
 
   -- 17: its task is still running
-  pub call-running : namesNothing P c ≡ false → stillCalled s c ≡ true → record { number = 17; state = s } ≡ callAnswer P readings times s c
+  pub call-running : namesNothing P c ≡ false → stillCalled s c ≡ true
+      → record { number = overrunRefused; state = s } ≡ callAnswer P readings times s c
   call-running e f = (λ i. answered (sym e i) (sym f i)) ∙ answered-call
 
   -- it is done
   pub call-done : namesNothing P c ≡ false → stillCalled s c ≡ false
-      → record { number = 0; state = called P readings times s c } ≡ callAnswer P readings times s c
+      → record { number = acceptedNumber; state = called P readings times s c } ≡ callAnswer P readings times s c
   call-done e f = (λ i. answered (sym e i) (sym f i)) ∙ answered-call
 
 module _ (T : Tables) (readings times : List ℤ) (s : State) where
   -- a driver that is not declared
   pub driver-nothing : {drivers : List ℤ} (d : ℕ) → T .drivers ≡ drivers → rowsIn driverWidth drivers ≤ d
-      → record { number = 19; state = s } ≡ callAnswer (programOf T) readings times s (driverCall d)
+      → record { number = faultyRefused; state = s } ≡ callAnswer (programOf T) readings times s (driverCall d)
   driver-nothing d e l = call-nothing (programOf T) readings times s (driverCall d) (driver-past T d e ∙ le-leb _ d l)
 
   -- one that is: it moves what its row says
   pub driver-done : {drivers : List ℤ} (d name : ℕ) (v : List ℤ) → T .drivers ≡ drivers → rowsIn driverWidth drivers ≤ maxDrivers
       → d < rowsIn driverWidth drivers → name ≡ nameOf d → v ≡ drive (driverRow T name) (s .ports)
-      → record { number = 0; state = withPorts s v } ≡ callAnswer (programOf T) readings times s (driverCall d)
+      → record { number = acceptedNumber; state = withPorts s v } ≡ callAnswer (programOf T) readings times s (driverCall d)
   driver-done d name v e few l n h =
       let named : name ≡ d = n ∙ name-small d (omega arith) in
       let declared : d < driverCount T = subst (λ (t : List ℤ). d < rowsIn driverWidth t) (sym e) l in
-      ap (λ (w : List ℤ). record { number = 0; state = withPorts s w })
+      ap (λ (w : List ℤ). record { number = acceptedNumber; state = withPorts s w })
       (h ∙ ap (λ (k : ℕ). drive (driverRow T k) (s .ports)) named ∙ ap (λ (D : Driver). drive D (s .ports)) (sym (driver-row T d declared)))
       ∙ call-done (programOf T) readings times s (driverCall d) (driver-past T d e ∙ lt-leb _ d l) refl
 
   -- a task that is not declared
   pub output-nothing : {tasks : List ℤ} (t : ℕ) → T .tasks ≡ tasks → rowsIn taskWidth tasks ≤ t
-      → record { number = 19; state = s } ≡ callAnswer (programOf T) readings times s (outputCall t)
+      → record { number = faultyRefused; state = s } ≡ callAnswer (programOf T) readings times s (outputCall t)
   output-nothing t e l = call-nothing (programOf T) readings times s (outputCall t) (task-past T t e ∙ le-leb _ t l)
 
   module _ {tasks : List ℤ} (t name : ℕ) (e : T .tasks ≡ tasks) (few : rowsIn taskWidth tasks ≤ maxTasks)
@@ -98,7 +104,7 @@ module _ (T : Tables) (readings times : List ℤ) (s : State) where
 
     -- it is still running
     pub output-running : (rest : ℕ) → rest ≡ leftOf (s .left) name → 0 < rest
-        → record { number = 17; state = s } ≡ callAnswer (programOf T) readings times s (outputCall t)
+        → record { number = overrunRefused; state = s } ≡ callAnswer (programOf T) readings times s (outputCall t)
     output-running rest r h =
         call-running (programOf T) readings times s (outputCall t) (task-past T t e ∙ lt-leb _ t l)
         (le-leb 1 _ (subst (λ (k : ℕ). 1 ≤ k) (r ∙ ap (leftOf (s .left)) named-task) h))
@@ -106,10 +112,10 @@ module _ (T : Tables) (readings times : List ℤ) (s : State) where
     -- it has ended: its outputs take its local outputs
     pub output-done : (rest : ℕ) (v : List ℤ) → rest ≡ leftOf (s .left) name → rest ≤ 0
         → v ≡ puts (takes (valueOf (s .outputs)) (portsOf T output name)) (s .ports)
-        → record { number = 0; state = withPorts s v } ≡ callAnswer (programOf T) readings times s (outputCall t)
+        → record { number = acceptedNumber; state = withPorts s v } ≡ callAnswer (programOf T) readings times s (outputCall t)
     output-done rest v r h o =
         let declared : t < taskCount T = subst (λ (t′ : List ℤ). t < rowsIn taskWidth t′) (sym e) l in
-        ap (λ (w : List ℤ). record { number = 0; state = withPorts s w })
+        ap (λ (w : List ℤ). record { number = acceptedNumber; state = withPorts s w })
         (o ∙ ap (λ (k : ℕ). puts (takes (valueOf (s .outputs)) (portsOf T output k)) (s .ports)) named-task
         ∙ ap (λ (K : Task). puts (takes (valueOf (s .outputs)) (K .outputs)) (s .ports)) (sym (task-row T t declared)))
         ∙ call-done (programOf T) readings times s (outputCall t) (task-past T t e ∙ lt-leb _ t l)
@@ -121,15 +127,16 @@ module _ (T : Tables) (readings times : List ℤ) (s : State) where
     few-ports = subst (λ (t : List ℤ). rowsIn portWidth t ≤ maxPorts) (sym e) few
 
     -- a port that is no sensor
-    pub sensor-nothing : isKind T sensor name ≡ false → record { number = 19; state = s } ≡ callAnswer (programOf T) readings times s (sensorCall p)
+    pub sensor-nothing : isKind T sensor name ≡ false → record { number = faultyRefused; state = s } ≡ callAnswer (programOf T) readings times s (sensorCall p)
     sensor-nothing h =
         call-nothing (programOf T) readings times s (sensorCall p)
         (ap not (sym (ap (isKind T sensor) n ∙ sensor-is T few-ports p) ∙ h))
 
     -- one that is: it takes its reading
     pub sensor-done : (v : List ℤ) → isKind T sensor name ≡ true → v ≡ set (s .ports) name (valueOf readings name)
-        → record { number = 0; state = withPorts s v } ≡ callAnswer (programOf T) readings times s (sensorCall p)
+        → record { number = acceptedNumber; state = withPorts s v } ≡ callAnswer (programOf T) readings times s (sensorCall p)
     sensor-done v h o =
         let named : name ≡ p = n ∙ sensor-named T few-ports p (sym (ap (isKind T sensor) n) ∙ h) in
-        ap (λ (w : List ℤ). record { number = 0; state = withPorts s w }) (o ∙ ap (λ (k : ℕ). set (s .ports) k (valueOf readings k)) named)
+        ap (λ (w : List ℤ). record { number = acceptedNumber; state = withPorts s w })
+        (o ∙ ap (λ (k : ℕ). set (s .ports) k (valueOf readings k)) named)
         ∙ call-done (programOf T) readings times s (sensorCall p) (ap not (sym (ap (isKind T sensor) n ∙ sensor-is T few-ports p) ∙ h)) refl

@@ -9,9 +9,11 @@ use lib.Dec.{ltb, leb}
 use lib.IntN.{ℤ}
 use lib.ListN.{set}
 use borrow.Author.Tests.{leb-false, lt-ltb, le-ltb, le-leb, lt-leb}
+use Rattle.theory.specs.Verdict.{acceptedNumber}
 use Rattle.theory.proofs.Bools.{neither}
 use Rattle.cells.specs.Cell.{nameOf, rowsIn, numAt, fieldAt}
 use Rattle.cells.specs.Limits.{maxTasks, maxDrivers}
+use Rattle.cells.specs.Refusals.{timeRefused, overrunRefused, faultyRefused}
 use Rattle.cells.proofs.Names.{name-small}
 use Rattle.program.specs.Tables.{Tables, taskWidth, taskTime, taskCount, driverWidth, driverCount}
 use Rattle.program.specs.Guard.{Guard, guardOf, holds}
@@ -33,7 +35,7 @@ use Rattle.instants.proofs.Steps.{refusedWith, moved, step-faulty, step
 
 module _ (P : Program) (readings times : List ℤ) (n : ℕ) (a : At) (c u : ℕ) where
   -- `call`: its unused word is not 0
-  pub call-faulty : 0 < u → refusedWith a 19 ≡ stepped P readings times n (decode callNumber c u) a
+  pub call-faulty : 0 < u → refusedWith a faultyRefused ≡ stepped P readings times n (decode callNumber c u) a
   call-faulty l = unused-faulty P readings times n a u (call c) (ap (λ (b : Bool). b || isFaulty P n (a .planned) (call c)) (lt-ltb 0 u l))
 
   -- what the machine comes to by what the call answers: refused with its number, or moved on with its state
@@ -55,20 +57,21 @@ module _ (P : Program) (readings times : List ℤ) (n : ℕ) (a : At) (c u : ℕ
       go false false = refl
 
   -- the call is refused
-  pub call-refused : (r : Advanced) → u ≤ 0 → r ≡ callAnswer P readings times (a .state) (callOf c) → 0 < r .number
+  pub call-refused : (r : Advanced) → u ≤ 0 → r ≡ callAnswer P readings times (a .state) (callOf c) → acceptedNumber < r .number
       → refusedWith a (r .number) ≡ stepped P readings times n (decode callNumber c u) a
   call-refused r l e h = some (r .number) h ∙ ap after e ∙ answer-after l
     where
-      some : (m : ℕ) → 0 < m → refusedWith a m ≡ elim m [ zero ↦ moved a (a .planned) (r .state) | suc m ↦ refusedWith a (suc m) ]
+      some : (m : ℕ) → acceptedNumber < m
+          → refusedWith a m ≡ elim m [ zero ↦ moved a (a .planned) (r .state) | suc m ↦ refusedWith a (suc m) ]
       some zero h = absurd (omega arith)
       some (suc m) h = refl
 
   -- it is done
-  pub call-moved : (r : Advanced) → u ≤ 0 → r ≡ callAnswer P readings times (a .state) (callOf c) → r .number ≤ 0
+  pub call-moved : (r : Advanced) → u ≤ 0 → r ≡ callAnswer P readings times (a .state) (callOf c) → r .number ≤ acceptedNumber
       → moved a (a .planned) (r .state) ≡ stepped P readings times n (decode callNumber c u) a
   call-moved r l e h = none (r .number) h ∙ ap after e ∙ answer-after l
     where
-      none : (m : ℕ) → m ≤ 0 → moved a (a .planned) (r .state) ≡ elim m [ zero ↦ moved a (a .planned) (r .state) | suc m ↦ refusedWith a (suc m) ]
+      none : (m : ℕ) → m ≤ acceptedNumber → moved a (a .planned) (r .state) ≡ elim m [ zero ↦ moved a (a .planned) (r .state) | suc m ↦ refusedWith a (suc m) ]
       none zero h = refl
       none (suc m) h = absurd (omega arith)
 
@@ -78,7 +81,7 @@ schedule-declared rows t u h = leb-false rows t (neither (ltb 0 u) (leb rows t) 
 
 module _ (T : Tables) (readings times : List ℤ) (n : ℕ) (a : At) {tasks : List ℤ} (t u : ℕ) (e : T .tasks ≡ tasks) where
   -- `schedule`: its unused word is not 0, or its task is not declared
-  pub schedule-faulty : (ltb 0 u || leb (rowsIn taskWidth tasks) t) ≡ true → refusedWith a 19 ≡ stepped (programOf T) readings times n (decode scheduleNumber t u) a
+  pub schedule-faulty : (ltb 0 u || leb (rowsIn taskWidth tasks) t) ≡ true → refusedWith a faultyRefused ≡ stepped (programOf T) readings times n (decode scheduleNumber t u) a
   schedule-faulty h = unused-faulty (programOf T) readings times n a u (schedule t) (ap (λ (b : Bool). ltb 0 u || b) (task-past T t e) ∙ h)
 
   module _ (few : rowsIn taskWidth tasks ≤ maxTasks) (h : (ltb 0 u || leb (rowsIn taskWidth tasks) t) ≡ false)
@@ -101,7 +104,7 @@ module _ (T : Tables) (readings times : List ℤ) (n : ℕ) (a : At) {tasks : Li
         λ i. leb 1 (lent i) && leb (lent i) (own i)
 
     -- 16: it is not
-    pub schedule-late : not (leb 1 time && leb time worst) ≡ true → refusedWith a 16 ≡ stepped (programOf T) readings times n (decode scheduleNumber t u) a
+    pub schedule-late : not (leb 1 time && leb time worst) ≡ true → refusedWith a timeRefused ≡ stepped (programOf T) readings times n (decode scheduleNumber t u) a
     schedule-late l = step-late (programOf T) readings times n a (schedule t) sound (ap not (sym in-range) ∙ l) ∙ said
 
     module _ (l : not (leb 1 time && leb time worst) ≡ false) (name rest : ℕ) (m : name ≡ nameOf t) (r : rest ≡ leftOf (a .state .left) name) where
@@ -110,7 +113,7 @@ module _ (T : Tables) (readings times : List ℤ) (n : ℕ) (a : At) {tasks : Li
       own-rest = r ∙ ap (leftOf (a .state .left)) (m ∙ name-small t (omega (arith, schedule-declared (rowsIn taskWidth tasks) t u h)))
 
       -- 17: the task is still running
-      pub schedule-running : 0 < rest → refusedWith a 17 ≡ stepped (programOf T) readings times n (decode scheduleNumber t u) a
+      pub schedule-running : 0 < rest → refusedWith a overrunRefused ≡ stepped (programOf T) readings times n (decode scheduleNumber t u) a
       schedule-running q =
           step-running (programOf T) readings times n a (schedule t) sound (ap not (sym in-range) ∙ l) (le-leb 1 _ (subst (λ (k : ℕ). 1 ≤ k) own-rest q))
           ∙ said
@@ -126,7 +129,7 @@ module _ (T : Tables) (readings times : List ℤ) (n : ℕ) (a : At) {tasks : Li
 
 module _ (T : Tables) (readings times : List ℤ) (n : ℕ) (a : At) {drivers : List ℤ} (d to : ℕ) (e : T .drivers ≡ drivers) where
   -- `if`: its driver is not declared, or its address is past the end
-  pub branch-faulty : (leb (rowsIn driverWidth drivers) d || leb n to) ≡ true → refusedWith a 19 ≡ stepped (programOf T) readings times n (decode ifNumber d to) a
+  pub branch-faulty : (leb (rowsIn driverWidth drivers) d || leb n to) ≡ true → refusedWith a faultyRefused ≡ stepped (programOf T) readings times n (decode ifNumber d to) a
   branch-faulty h = step-faulty (programOf T) readings times n a (branch d to) (ap (λ (b : Bool). b || leb n to) (driver-past T d e) ∙ h)
 
   module _ (few : rowsIn driverWidth drivers ≤ maxDrivers) (h : (leb (rowsIn driverWidth drivers) d || leb n to) ≡ false)
@@ -141,7 +144,7 @@ module _ (T : Tables) (readings times : List ℤ) (n : ℕ) (a : At) {drivers : 
     -- on at the address where the guard holds, or not
     abbrev goesOn : Bool → Stepped
     goesOn held = record {
-      number = 0;
+      number = acceptedNumber;
       over = false;
       at = record { address = elim held [ true ↦ to | false ↦ suc (a .address) ]; planned = a .planned; state = a .state };
     }

@@ -8,6 +8,7 @@ use lib.IntN.{ℤ}
 use lib.ListN.{length, List·getD-eq-default}
 use Rattle.cells.specs.Cell.{wordAt}
 use Rattle.cells.specs.Limits.{wordsEach}
+use Rattle.cells.specs.Refusals.{faultyRefused}
 use Rattle.program.specs.Program.{Program}
 use Rattle.code.specs.Op.{Op, faulty, callNumber, scheduleNumber, ifNumber, jumpNumber, futureNumber, returnNumber, decode, instructions}
 use Rattle.code.proofs.Fetch.{instructions-length, instruction-read, decode-unknown}
@@ -18,7 +19,7 @@ use Rattle.instants.proofs.Steps.{refusedWith, step-faulty}
 
 module _ (P : Program) (readings times : List ℤ) (code : List ℕ) (a : At) where
   -- past the end
-  pub fetched-none : length code / wordsEach ≤ a .address → refusedWith a 19 ≡ stepAt P readings times (instructions code) a
+  pub fetched-none : length code / wordsEach ≤ a .address → refusedWith a faultyRefused ≡ stepAt P readings times (instructions code) a
   fetched-none l =
       step-faulty P readings times (length (instructions code)) a faulty refl
       ∙ ap (λ (o : Op). stepped P readings times (length (instructions code)) o a)
@@ -36,8 +37,9 @@ module _ (P : Program) (readings times : List ℤ) (code : List ℕ) (a : At) wh
 
     -- it has none of the six numbers
     pub fetched-unknown : (number ≡ callNumber → ⊥) → (number ≡ scheduleNumber → ⊥) → (number ≡ ifNumber → ⊥) → (number ≡ jumpNumber → ⊥)
-        → (number ≡ futureNumber → ⊥) → (number ≡ returnNumber → ⊥) → refusedWith a 19 ≡ stepAt P readings times (instructions code) a
+        → (number ≡ futureNumber → ⊥) → (number ≡ returnNumber → ⊥)
+        → refusedWith a faultyRefused ≡ stepAt P readings times (instructions code) a
     fetched-unknown c s i j f r =
-        fetched (refusedWith a 19) number refl
+        fetched (refusedWith a faultyRefused) number refl
         (step-faulty P readings times (length code / wordsEach) a faulty refl
         ∙ ap (λ (o : Op). stepped P readings times (length code / wordsEach) o a) (sym (decode-unknown number first second c s i j f r)))

@@ -8,8 +8,10 @@ use native.Mathlib.Omega.{arith}
 use lib.IntN.{ℤ}
 use lib.ListN.{length}
 use borrow.Author.Tests.{lt-ltb, le-ltb}
+use Rattle.theory.specs.Verdict.{acceptedNumber}
 use Rattle.theory.proofs.Bools.{clash}
 use Rattle.cells.specs.Limits.{wordsEach}
+use Rattle.cells.specs.Refusals.{faultyRefused, countRefused}
 use Rattle.program.specs.Program.{Program}
 use Rattle.code.specs.Op.{Op, call, schedule, branch, jump, future, return, faulty, instructions}
 use Rattle.code.proofs.Fetch.{instructions-length}
@@ -24,11 +26,11 @@ use Rattle.instants.specs.declared.instructions.Stepped.{Stepped}
 use Rattle.instants.specs.Step.{stepped, stepAt}
 
 -- all were run: one more inside the code is 20
-pub spent-inside : (n address : ℕ) (s : State) → address < n → record { number = 20; state = s } ≡ answer s (ended n address)
+pub spent-inside : (n address : ℕ) (s : State) → address < n → record { number = countRefused; state = s } ≡ answer s (ended n address)
 spent-inside n address s l = rw (lt-ltb address n l, ended)
 
 -- running off the end is 19
-pub spent-outside : (n address : ℕ) (s : State) → n ≤ address → record { number = 19; state = s } ≡ answer s (ended n address)
+pub spent-outside : (n address : ℕ) (s : State) → n ≤ address → record { number = faultyRefused; state = s } ≡ answer s (ended n address)
 spent-outside n address s l = rw (le-ltb address n l, ended)
 
 module _ (P : Program) (readings times : List ℤ) where
@@ -46,7 +48,7 @@ module _ (P : Program) (readings times : List ℤ) where
     -- what the instruction comes to, by its refusal
     abbrev stepBy : ℕ → Stepped
     stepBy v = elim v [
-      | zero ↦ record { number = 0; over = isReturn (fetch P readings times code a); at = executes P readings times (fetch P readings times code a) a }
+      | zero ↦ record { number = acceptedNumber; over = isReturn (fetch P readings times code a); at = executes P readings times (fetch P readings times code a) a }
       | suc m ↦ record { number = suc m; over = false; at = a }
     ]
 
@@ -60,9 +62,9 @@ module _ (P : Program) (readings times : List ℤ) where
         go (suc v) = refl
 
     -- without one it is executed
-    executed : r .number ≤ 0 → r ≡ stepBy 0
+    executed : r .number ≤ acceptedNumber → r ≡ stepBy acceptedNumber
     unfolding stepped
-    executed h = let z : refusalAt P readings times code a ≡ 0 = omega (arith, refusal) in e ∙ ap stepBy z
+    executed h = let z : refusalAt P readings times code a ≡ acceptedNumber = omega (arith, refusal) in e ∙ ap stepBy z
 
     module _ (more : ℕ) (l : 0 < more) where
       -- one of the count is its own
@@ -70,25 +72,26 @@ module _ (P : Program) (readings times : List ℤ) where
       own = omega arith
 
       -- the instant is refused
-      pub run-refused : 0 < r .number → run P readings times code more a ≡ stop (r .number)
+      pub run-refused : acceptedNumber < r .number → run P readings times code more a ≡ stop (r .number)
       run-refused h =
           ap (λ (k : ℕ). run P readings times code k a) own ∙ at-refusal P readings times code (more - 1) a (r .number) (omega arith) refusal
 
       -- it is over
-      pub run-over : r .number ≤ 0 → r .over ≡ true → run P readings times code more a ≡ ok (r .at .state)
+      pub run-over : r .number ≤ acceptedNumber → r .over ≡ true → run P readings times code more a ≡ ok (r .at .state)
       run-over h y =
           let x = executed h in
-          let z : refusalAt P readings times code a ≡ 0 = omega (arith, refusal) in
+          let z : refusalAt P readings times code a ≡ acceptedNumber = omega (arith, refusal) in
           let returns : isReturn (fetch P readings times code a) ≡ true = sym (ap (λ (q : Stepped). q .over) x) ∙ y in
           ap (λ (k : ℕ). run P readings times code k a) own
           ∙ at-return P readings times code (more - 1) a z returns
           ∙ ap (λ (m : At). ok (m .state)) (sym (ap (λ (q : Stepped). q .at) x ∙ return-stays (fetch P readings times code a) a returns))
 
       -- it goes on
-      pub run-goes : r .number ≤ 0 → r .over ≡ false → run P readings times code more a ≡ run P readings times code (more - 1) (r .at)
+      pub run-goes : r .number ≤ acceptedNumber → r .over ≡ false
+          → run P readings times code more a ≡ run P readings times code (more - 1) (r .at)
       run-goes h y =
           let x = executed h in
-          let z : refusalAt P readings times code a ≡ 0 = omega (arith, refusal) in
+          let z : refusalAt P readings times code a ≡ acceptedNumber = omega (arith, refusal) in
           ap (λ (k : ℕ). run P readings times code k a) own
           ∙ passes P readings times code (more - 1) a z (sym (ap (λ (q : Stepped). q .over) x) ∙ y)
           ∙ ap (λ (m : At). run P readings times code (more - 1) m) (sym (ap (λ (q : Stepped). q .at) x))
@@ -114,14 +117,14 @@ module _ (P : Program) (readings times : List ℤ) where
 
       module _ (l : 0 < more) (r : Stepped) (e : r ≡ stepAt P readings times (instructions words) a) where
         -- the next one is refused
-        pub left-refused : 0 < r .number → record { number = r .number; state = s } ≡ answer s (runInstant P readings times (instructions words) s)
+        pub left-refused : acceptedNumber < r .number → record { number = r .number; state = s } ≡ answer s (runInstant P readings times (instructions words) s)
         left-refused h = ap (answer s) (sym (run-refused (instructions words) a r e more l h) ∙ left)
 
         -- it ends the instant
-        pub left-over : r .number ≤ 0 → r .over ≡ true
-            → record { number = 0; state = r .at .state } ≡ answer s (runInstant P readings times (instructions words) s)
+        pub left-over : r .number ≤ acceptedNumber → r .over ≡ true
+            → record { number = acceptedNumber; state = r .at .state } ≡ answer s (runInstant P readings times (instructions words) s)
         left-over h y = ap (answer s) (sym (run-over (instructions words) a r e more l h y) ∙ left)
 
         -- one less is left
-        pub left-less : r .number ≤ 0 → r .over ≡ false → Left (more - 1) (r .at)
+        pub left-less : r .number ≤ acceptedNumber → r .over ≡ false → Left (more - 1) (r .at)
         left-less h y = sym (run-goes (instructions words) a r e more l h y) ∙ left

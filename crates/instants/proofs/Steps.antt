@@ -10,9 +10,10 @@ use native.Mathlib.Omega.{arith}
 use lib.Dec.{ltb, leb}
 use lib.IntN.{ℤ}
 use borrow.Author.Tests.{lt-ltb}
-use Rattle.theory.specs.Verdict.{orElse}
+use Rattle.theory.specs.Verdict.{acceptedNumber, orElse}
 use Rattle.theory.proofs.Bools.{clash, neither}
 use Rattle.cells.specs.Limits.{maxDelay}
+use Rattle.cells.specs.Refusals.{timeRefused, overrunRefused, faultyRefused}
 use Rattle.program.specs.Program.{Program}
 use Rattle.rules.specs.Fields.{inRange}
 use Rattle.code.specs.Op.{Op, jump, future, return, unused, decode, jumpNumber, futureNumber, returnNumber}
@@ -35,24 +36,29 @@ module _ (a : At) where
 
   -- on to the next address, with this state
   abbrev pub moved : Bool → State → Stepped
-  moved planned s = record { number = 0; over = false; at = record { address = suc (a .address); planned = planned; state = s } }
+  moved planned s =
+      record { number = acceptedNumber; over = false; at = record { address = suc (a .address); planned = planned; state = s } }
 
   -- the code adds one
   pub moved-on : (planned : Bool) (s : State)
-      → record { number = 0; over = false; at = record { address = a .address + 1; planned = planned; state = s } } ≡ moved planned s
+      → record { number = acceptedNumber; over = false; at = record { address = a .address + 1; planned = planned; state = s } }
+      ≡ moved planned s
   moved-on planned s =
-      ap (λ (address : ℕ). record { number = 0; over = false; at = record { address = address; planned = planned; state = s } }) (add-one (a .address))
+      ap (λ (address : ℕ). record { number = acceptedNumber; over = false; at = record { address = address; planned = planned; state = s } }) (add-one (a .address))
 
 module _ (P : Program) (readings times : List ℤ) (n : ℕ) (a : At) where
   module _ (o : Op) where
     -- the machine after it
     abbrev pub executed : Stepped
-    executed = record { number = 0; over = isReturn o; at = executes P readings times o a }
+    executed = record { number = acceptedNumber; over = isReturn o; at = executes P readings times o a }
 
     -- what the three tests decide
     abbrev pub decided : Bool → Bool → Bool → Stepped
     decided faulty late running =
-        elim (orElse faulty 19 (orElse late 16 (orElse running 17 0))) [ zero ↦ executed | suc m ↦ refusedWith a (suc m) ]
+        elim (orElse faulty faultyRefused (orElse late timeRefused (orElse running overrunRefused acceptedNumber))) [
+          | zero ↦ executed
+          | suc m ↦ refusedWith a (suc m)
+        ]
 
     -- it is what the step comes to
     pub decided-step : decided (isFaulty P n (a .planned) o) (timeBad P times o) (stillRunning (a .state) o) ≡ stepped P readings times n o a
@@ -60,16 +66,17 @@ module _ (P : Program) (readings times : List ℤ) (n : ℕ) (a : At) where
     decided-step = refl
 
     -- 19: it is faulty
-    pub step-faulty : isFaulty P n (a .planned) o ≡ true → refusedWith a 19 ≡ stepped P readings times n o a
+    pub step-faulty : isFaulty P n (a .planned) o ≡ true → refusedWith a faultyRefused ≡ stepped P readings times n o a
     step-faulty e = (λ i. decided (sym e i) (timeBad P times o) (stillRunning (a .state) o)) ∙ decided-step
 
     -- 16: the time that it is lent is not in range
-    pub step-late : isFaulty P n (a .planned) o ≡ false → timeBad P times o ≡ true → refusedWith a 16 ≡ stepped P readings times n o a
+    pub step-late : isFaulty P n (a .planned) o ≡ false → timeBad P times o ≡ true
+        → refusedWith a timeRefused ≡ stepped P readings times n o a
     step-late e f = (λ i. decided (sym e i) (sym f i) (stillRunning (a .state) o)) ∙ decided-step
 
     -- 17: its task is still running
     pub step-running : isFaulty P n (a .planned) o ≡ false → timeBad P times o ≡ false → stillRunning (a .state) o ≡ true
-        → refusedWith a 17 ≡ stepped P readings times n o a
+        → refusedWith a overrunRefused ≡ stepped P readings times n o a
     step-running e f g = (λ i. decided (sym e i) (sym f i) (sym g i)) ∙ decided-step
 
     -- it is executed
@@ -79,7 +86,7 @@ module _ (P : Program) (readings times : List ℤ) (n : ℕ) (a : At) where
 
   -- an instruction is faulty too where its unused word is not 0
   pub unused-faulty : (u : ℕ) (o : Op) → (ltb 0 u || isFaulty P n (a .planned) o) ≡ true
-      → refusedWith a 19 ≡ stepped P readings times n (unused u o) a
+      → refusedWith a faultyRefused ≡ stepped P readings times n (unused u o) a
   unused-faulty u o e = step-faulty (unused u o) (go u e)
     where
       go : (u : ℕ) → (ltb 0 u || isFaulty P n (a .planned) o) ≡ true → isFaulty P n (a .planned) (unused u o) ≡ true
@@ -92,12 +99,13 @@ module _ (P : Program) (readings times : List ℤ) (n : ℕ) (a : At) where
   unused-none (suc u) o e = clash (lt-ltb 0 (suc u) (omega arith)) e
 
   -- `jump`: its unused word is not 0, or its address is past the end
-  pub jump-refused : (to u : ℕ) → (ltb 0 u || leb n to) ≡ true → refusedWith a 19 ≡ stepped P readings times n (decode jumpNumber to u) a
+  pub jump-refused : (to u : ℕ) → (ltb 0 u || leb n to) ≡ true
+      → refusedWith a faultyRefused ≡ stepped P readings times n (decode jumpNumber to u) a
   jump-refused to u e = unused-faulty u (jump to) e
 
   -- it jumps
   pub jump-executed : (to u : ℕ) → (ltb 0 u || leb n to) ≡ false
-      → record { number = 0; over = false; at = record { address = to; planned = a .planned; state = a .state } }
+      → record { number = acceptedNumber; over = false; at = record { address = to; planned = a .planned; state = a .state } }
       ≡ stepped P readings times n (decode jumpNumber to u) a
   jump-executed to u e =
       let (none, inside) = neither (ltb 0 u) (leb n to) e in
@@ -105,14 +113,14 @@ module _ (P : Program) (readings times : List ℤ) (n : ℕ) (a : At) where
 
   -- `future`: one was executed before, its delay is not in range, or its address is past the end
   pub future-refused : (delay to : ℕ) → (a .planned || not (leb 1 delay && leb delay maxDelay) || leb n to) ≡ true
-      → refusedWith a 19 ≡ stepped P readings times n (decode futureNumber delay to) a
+      → refusedWith a faultyRefused ≡ stepped P readings times n (decode futureNumber delay to) a
   unfolding inRange
   future-refused delay to e = step-faulty (future delay to) e
 
   -- a block begins here
   pub future-executed : (delay to : ℕ) → (a .planned || not (leb 1 delay && leb delay maxDelay) || leb n to) ≡ false
       → record {
-        number = 0;
+        number = acceptedNumber;
         over = false;
         at = record { address = a .address + 1; planned = true; state = planAt P readings times (a .address) delay to (a .state) };
       }
@@ -122,13 +130,13 @@ module _ (P : Program) (readings times : List ℤ) (n : ℕ) (a : At) where
 
   -- `return`: a word of it is not 0, or no `future` was executed
   pub return-refused : (first second : ℕ) → (ltb 0 first || ltb 0 second || not (a .planned)) ≡ true
-      → refusedWith a 19 ≡ stepped P readings times n (decode returnNumber first second) a
+      → refusedWith a faultyRefused ≡ stepped P readings times n (decode returnNumber first second) a
   return-refused first second e =
       unused-faulty (first + second) return (ap (λ (b : Bool). b || not (a .planned)) (sym (either-some first second)) ∙ e)
 
   -- the instant is over
   pub return-executed : (first second : ℕ) → (ltb 0 first || ltb 0 second || not (a .planned)) ≡ false
-      → record { number = 0; over = true; at = a } ≡ stepped P readings times n (decode returnNumber first second) a
+      → record { number = acceptedNumber; over = true; at = a } ≡ stepped P readings times n (decode returnNumber first second) a
   return-executed first second e =
       let (none, planned) = neither (ltb 0 first || ltb 0 second) (not (a .planned)) e in
       step-executed return planned refl refl ∙ unused-none (first + second) return (sym (either-some first second) ∙ none)

@@ -5,9 +5,10 @@ use mathlib.Core.Bool.{true, false}
 use mathlib.Core.List.{List}
 use lib.IntN.{ℤ}
 use lib.ListN.{length}
-use Rattle.theory.specs.Verdict.{verdict}
+use Rattle.theory.specs.Verdict.{acceptedNumber, verdict}
 use Rattle.cells.specs.Cell.{rowsIn}
 use Rattle.cells.specs.Limits.{maxPorts, maxTasks, maxDrivers}
+use Rattle.cells.specs.Refusals.{overrunRefused, faultyRefused}
 use Rattle.program.specs.Tables.{portWidth, taskWidth, driverWidth}
 use Rattle.program.specs.Program.{Program}
 use Rattle.code.specs.Op.{Op}
@@ -32,14 +33,17 @@ module _ (P : Program) (readings times : List ℤ) where
   -- a call: 19 if it names nothing, 17 if its task is still running, or the state after it
   unfoldable pub callAnswer : State → Call → Advanced
   callAnswer s c = elim (namesNothing P c) [
-    | true ↦ record { number = 19; state = s }
-    | false ↦ elim (stillCalled s c) [ true ↦ record { number = 17; state = s } | false ↦ record { number = 0; state = called P readings times s c } ]
+    | true ↦ record { number = faultyRefused; state = s }
+    | false ↦ elim (stillCalled s c) [
+      | true ↦ record { number = overrunRefused; state = s }
+      | false ↦ record { number = acceptedNumber; state = called P readings times s c }
+    ]
   ]
 
   -- an instruction, in a code of n
   unfoldable pub stepped : ℕ → Op → At → Stepped
   stepped n o a = elim (verdict (instructionRefusals P readings times n o) a) [
-    | zero ↦ record { number = 0; over = isReturn o; at = executes P readings times o a }
+    | zero ↦ record { number = acceptedNumber; over = isReturn o; at = executes P readings times o a }
     | suc m ↦ record { number = suc m; over = false; at = a }
   ]
 

@@ -16,6 +16,7 @@ use cells::kinds::Driver;
 use cells::kinds::Port;
 use cells::kinds::Task;
 use cells::limits::Program;
+use cells::refusals;
 use machine::Advanced;
 use machine::State;
 use machine::values;
@@ -37,7 +38,7 @@ fn driver_call(drivers: &[i32], copies: &[i32], d: usize, s: State) -> Advanced
 {
     if drivers.len() / driver::WIDTH <= d {
         return Advanced {
-            number: 19,
+            number: refusals::FAULTY,
             state: s,
         };
     }
@@ -46,7 +47,7 @@ fn driver_call(drivers: &[i32], copies: &[i32], d: usize, s: State) -> Advanced
     let mut next = s;
     next.ports = ports;
     Advanced {
-        number: 0,
+        number: refusals::ACCEPTED,
         state: next,
     }
 }
@@ -60,7 +61,7 @@ fn output_call(ports: &[i32], tasks: &[i32], task_ports: &[i32], t: usize, s: St
 {
     if tasks.len() / task::WIDTH <= t {
         return Advanced {
-            number: 19,
+            number: refusals::FAULTY,
             state: s,
         };
     }
@@ -68,7 +69,7 @@ fn output_call(ports: &[i32], tasks: &[i32], task_ports: &[i32], t: usize, s: St
     let left = s.left;
     if 0 < turn::left_of(&left, own) {
         return Advanced {
-            number: 17,
+            number: refusals::OVERRUN,
             state: s,
         };
     }
@@ -78,7 +79,7 @@ fn output_call(ports: &[i32], tasks: &[i32], task_ports: &[i32], t: usize, s: St
     let mut next = s;
     next.ports = values;
     Advanced {
-        number: 0,
+        number: refusals::ACCEPTED,
         state: next,
     }
 }
@@ -92,7 +93,7 @@ fn sensor_call(ports: &[i32], readings: &[i32], p: usize, s: State) -> Advanced
     let own = Port::of(p);
     if !members::is_kind(ports, port::SENSOR, own) {
         return Advanced {
-            number: 19,
+            number: refusals::FAULTY,
             state: s,
         };
     }
@@ -101,7 +102,7 @@ fn sensor_call(ports: &[i32], readings: &[i32], p: usize, s: State) -> Advanced
     let mut next = s;
     next.ports = values;
     Advanced {
-        number: 0,
+        number: refusals::ACCEPTED,
         state: next,
     }
 }

@@ -4,6 +4,7 @@ ghost use mathlib.Core.Bool.{false};
 ghost use mathlib.Core.List.{List};
 ghost use Prim.Native.Nat.{ℕ, suc, _≤_, _<_};
 ghost use lib.IntN.{ℤ};
+ghost use Rattle.theory.specs.Verdict.{acceptedNumber};
 ghost use Rattle.cells.specs.Cell.{rowsIn};
 ghost use Rattle.cells.specs.Limits.{maxTasks, maxDrivers};
 ghost use Rattle.program.specs.Tables.{Tables, taskWidth, driverWidth};
@@ -16,6 +17,7 @@ use cells::columns::task;
 use cells::kinds::Driver;
 use cells::kinds::Task;
 use cells::limits::Program;
+use cells::refusals;
 use cells::table;
 use code::numbers;
 use machine::At;
@@ -44,7 +46,7 @@ fn refused(number: usize, at: At) -> Stepped
 fn moved(at: At, state: State) -> Stepped
     requires { ⌜ at .address < addressEnd ⌝ }
     ensures { λ r. ⌜ r ≡ record {
-      number = 0;
+      number = acceptedNumber;
       over = false;
       at = record {
         address = suc
@@ -55,7 +57,7 @@ fn moved(at: At, state: State) -> Stepped
     } ⌝ }
 {
     Stepped {
-        number: 0,
+        number: refusals::ACCEPTED,
         over: false,
         at: At {
             address: at.address + 1,
@@ -85,7 +87,7 @@ fn call(
         (decode callNumber n unused) at) ⌝ }
 {
     if 0 < unused {
-        return refused(19, at);
+        return refused(refusals::FAULTY, at);
     }
     let before = at.state;
     let after = calls::call(
@@ -98,7 +100,7 @@ fn call(
         n,
         before,
     );
-    if 0 < after.number {
+    if refusals::ACCEPTED < after.number {
         return refused(after.number, at);
     }
     let state = after.state;
@@ -113,18 +115,18 @@ fn schedule(tasks: &[i32], times: &[i32], t: usize, unused: usize, at: At) -> St
         → r ≡ stepped (programOf T) readings (now (times .entry)) count (decode scheduleNumber t unused) at) ⌝ }
 {
     if (0 < unused) | (tasks.len() / task::WIDTH <= t) {
-        return refused(19, at);
+        return refused(refusals::FAULTY, at);
     }
     let time = table::num(times, t);
     let worst = table::field(tasks, task::WIDTH, t, task::WORST);
     let in_range = (1 <= time) & (time <= worst);
     if !in_range {
-        return refused(16, at);
+        return refused(refusals::TIME, at);
     }
     let mut state = at.state;
     let mut left = state.left;
     if 0 < turn::left_of(&left, Task::of(t)) {
-        return refused(17, at);
+        return refused(refusals::OVERRUN, at);
     }
     left[t] = time;
     state.left = left;
@@ -139,7 +141,7 @@ fn branch(drivers: &[i32], count: usize, d: usize, to: usize, at: At) -> Stepped
         → r ≡ stepped (programOf T) readings times count (decode ifNumber d to) at) ⌝ }
 {
     if (drivers.len() / driver::WIDTH <= d) | (count <= to) {
-        return refused(19, at);
+        return refused(refusals::FAULTY, at);
     }
     let state = at.state;
     let ports = state.ports;
@@ -155,12 +157,12 @@ fn jump(count: usize, to: usize, unused: usize, at: At) -> Stepped
         → r ≡ stepped (programOf T) readings times count (decode jumpNumber to unused) at) ⌝ }
 {
     if (0 < unused) | (count <= to) {
-        return refused(19, at);
+        return refused(refusals::FAULTY, at);
     }
     let mut next = at;
     next.address = to;
     Stepped {
-        number: 0,
+        number: refusals::ACCEPTED,
         over: false,
         at: next,
     }
@@ -174,7 +176,7 @@ fn future(count: usize, delay: usize, to: usize, at: At) -> Stepped
 {
     let in_range = (1 <= delay) & (delay <= Program::DELAY);
     if at.planned | !in_range | (count <= to) {
-        return refused(19, at);
+        return refused(refusals::FAULTY, at);
     }
     let mut state = at.state;
     state.pending = to;
@@ -183,7 +185,7 @@ fn future(count: usize, delay: usize, to: usize, at: At) -> Stepped
     state.remaining = delay;
     state.positions = [0; Program::SUPPLIERS];
     Stepped {
-        number: 0,
+        number: refusals::ACCEPTED,
         over: false,
         at: At {
             address: at.address + 1,
@@ -199,10 +201,10 @@ fn finish(first: usize, second: usize, at: At) -> Stepped
         → r ≡ stepped (programOf T) readings times count (decode returnNumber first second) at) ⌝ }
 {
     if (0 < first) | (0 < second) | !at.planned {
-        return refused(19, at);
+        return refused(refusals::FAULTY, at);
     }
     Stepped {
-        number: 0,
+        number: refusals::ACCEPTED,
         over: true,
         at,
     }
@@ -227,7 +229,7 @@ pub fn step(
 {
     let count = code.len() / Program::WORDS;
     if count <= at.address {
-        return refused(19, at);
+        return refused(refusals::FAULTY, at);
     }
     let place = at.address * Program::WORDS;
     let number = table::word(code, place);
@@ -250,6 +252,6 @@ pub fn step(
         numbers::JUMP => jump(count, first, second, at),
         numbers::FUTURE => future(count, first, second, at),
         numbers::RETURN => finish(first, second, at),
-        _ => refused(19, at),
+        _ => refused(refusals::FAULTY, at),
     }
 }

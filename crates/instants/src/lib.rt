@@ -7,6 +7,7 @@ ghost use Rattle.machine.specs.Instant.{ended, runInstant};
 ghost use Rattle.machine.specs.Advance.{answer};
 ghost use Rattle.instants.specs.Step.{Named};
 use cells::limits::Program;
+use cells::refusals;
 use machine::Advanced;
 use machine::At;
 use machine::State;
@@ -20,12 +21,12 @@ fn spent(count: usize, address: usize, s: State) -> Advanced
 {
     if address < count {
         return Advanced {
-            number: 20,
+            number: refusals::COUNT,
             state: s,
         };
     }
     Advanced {
-        number: 19,
+        number: refusals::FAULTY,
         state: s,
     }
 }
@@ -66,7 +67,7 @@ pub fn run(
             times,
             at,
         );
-        if 0 < next.number {
+        if refusals::ACCEPTED < next.number {
             return Advanced {
                 number: next.number,
                 state: s,
@@ -75,7 +76,10 @@ pub fn run(
         at = next.at;
         if next.over {
             let state = at.state;
-            return Advanced { number: 0, state };
+            return Advanced {
+                number: refusals::ACCEPTED,
+                state,
+            };
         }
         more -= 1;
     }

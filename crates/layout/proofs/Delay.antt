@@ -10,6 +10,7 @@ use native.Mathlib.Nat.{add-zero, zero-add}
 use native.Mathlib.Omega.{arith}
 use lib.ListN.{length, getD, replicate, length-set, length-replicate}
 use lib.Seq.{getD-set-same, getD-set-other}
+use Rattle.theory.specs.Verdict.{acceptedNumber}
 use Rattle.theory.proofs.Filled.{zeros-at}
 use Rattle.cells.specs.Cell.{wordAt}
 use Rattle.cells.specs.Limits.{maxCode, maxDelay}
@@ -70,7 +71,7 @@ pub delay-of : (T : Tables) (a d : ℕ) → delayAt (listingOf T) a ≡ some d �
 unfolding listingOf
 delay-of T a d e = future-of (programOf T) a d e
 
-module _ (T : Tables) (v : programVerdict T ≡ 0) where
+module _ (T : Tables) (v : programVerdict T ≡ acceptedNumber) where
   -- every delay is at least 1 and at most the limit
   pub delay-in-range : (a d : ℕ) → delayAt (listingOf T) a ≡ some d → (1 ≤ d) × (d ≤ maxDelay)
   delay-in-range a d e =

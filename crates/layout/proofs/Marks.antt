@@ -12,6 +12,7 @@ use lib.IntN.{ℤ}
 use lib.ListN.{length, set}
 use borrow.Author.Tests.{leb-true, le-leb}
 use Rattle.theory.specs.Lists.{Every, cat}
+use Rattle.theory.specs.Verdict.{acceptedNumber}
 use Rattle.theory.proofs.Lists.{cat-length}
 use Rattle.cells.specs.Limits.{maxPeriod}
 use Rattle.program.specs.Tables.{Tables, modeCount, modePeriod}
@@ -112,7 +113,7 @@ mode-marked P m a table =
     cat-marked (blockCode P m) (blockSize P (mode P m)) (mode P m .units) a table (λ k l. block-length P m k)
     ∙ walked-same _ _ _ _ a (mode P m .units) table (λ k l. refl) (λ k at t l. block-marked P m k at t)
 
-module _ (T : Tables) (sensors : ℕ) (e : sensors ≡ length (programOf T .sensors)) (v : programVerdict T ≡ 0) where
+module _ (T : Tables) (sensors : ℕ) (e : sensors ≡ length (programOf T .sensors)) (v : programVerdict T ≡ acceptedNumber) where
   -- the program that the tables say
   abbrev P : Program
   P = programOf T

@@ -3,6 +3,7 @@ ghost use mathlib.Core.Path.{_≡_};
 ghost use Prim.Native.Nat.{suc, _+_, _≤_, _<_};
 ghost use lib.ListN.{length, set};
 ghost use Rattle.theory.specs.Lists.{sum};
+ghost use Rattle.theory.specs.Verdict.{acceptedNumber};
 ghost use Rattle.cells.specs.Cell.{rowsIn, wordAt, greatestWord};
 ghost use Rattle.cells.specs.Limits.{maxPorts, maxModes, maxUnits};
 ghost use Rattle.program.specs.Tables.{Tables, portWidth, modeWidth, modeCount};
@@ -132,7 +133,7 @@ pub fn fill(
         → now (delays .exit) ≡ modesMarked T (length (sensorRows (T .ports) (λ p. p))) (modeCount T) (now (delays .entry))) ⌝ }
     ensures listed { λ _. ⌜ ((T : Tables) → T .ports ≡ now (ports .entry) → T .modes ≡ now (modes .entry)
         → T .invocations ≡ now (invocations .entry) → T .updates ≡ now (updates .entry) → T .switches ≡ now (switches .entry)
-        → programVerdict T ≡ 0 → now (delays .exit) ≡ marked (listingOf T) 0 (now (delays .entry))) ⌝ }
+        → programVerdict T ≡ acceptedNumber → now (delays .exit) ≡ marked (listingOf T) 0 (now (delays .entry))) ⌝ }
 {
     let sensors = counts::sensors(ports);
     let n = modes.len() / mode::WIDTH;

@@ -8,10 +8,11 @@ use mathlib.Core.List.{List, [], _∷_, _++_, map}
 use native.Mathlib.Omega.{arith}
 use lib.ListN.{length}
 use borrow.Author.Tests.{ltb-false}
-use Rattle.theory.specs.Verdict.{Refusal, within, verdict, after}
+use Rattle.theory.specs.Verdict.{acceptedNumber, Refusal, within, verdict, after}
 use Rattle.theory.proofs.Conditions.{or-else-no}
 use Rattle.theory.proofs.Verdict.{verdict-clear, verdict-append, verdict-both, verdict-within}
 use Rattle.cells.specs.Limits.{maxCode}
+use Rattle.cells.specs.Refusals.{shapeRefused}
 use Rattle.program.specs.Tables.{Tables}
 use Rattle.rules.specs.Shape.{shapeBad}
 use Rattle.rules.specs.Verdict.{tableRefusals, programVerdict}
@@ -27,9 +28,9 @@ lent-first tables own x =
     ∙ ap (λ (n : ℕ). after n (verdict own x)) (verdict-within tables (tableRefusals ++ (longRefusal ∷ [])) x)
 
 -- tables with their shape that no number up to 11 refuses: the program is accepted, and its code is within the limit
-pub lent-none : (T : Tables) → shapeBad T ≡ false → lentVerdict T ≡ 0 → (programVerdict T ≡ 0) × CodeFits T
+pub lent-none : (T : Tables) → shapeBad T ≡ false → lentVerdict T ≡ acceptedNumber → (programVerdict T ≡ acceptedNumber) × CodeFits T
 unfolding lentVerdict programVerdict codeLong
 lent-none T s e =
     let v = verdict-both tableRefusals (longRefusal ∷ []) T (omega arith) e in
     let f = verdict-clear (longRefusal ∷ []) T (omega arith) (v .1) .0 in
-    (or-else-no 1 (verdict tableRefusals T) s ∙ v .0, ltb-false maxCode (length (listingOf T)) f)
+    (or-else-no shapeRefused (verdict tableRefusals T) s ∙ v .0, ltb-false maxCode (length (listingOf T)) f)

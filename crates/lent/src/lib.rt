@@ -10,6 +10,7 @@ ghost use Rattle.code.specs.Compile.{codeLong};
 ghost use Rattle.layout.specs.Few.{Few};
 ghost use Rattle.lent.specs.Tables.{lentVerdict};
 use cells::limits::Program;
+use cells::refusals;
 use layout::addresses;
 use layout::counts;
 
@@ -66,11 +67,11 @@ pub fn lent_verdict(
         switches,
         start,
     );
-    if 0 < number {
+    if refusals::ACCEPTED < number {
         return number;
     }
     if code_long(ports, modes, invocations, updates, switches) {
-        return 11;
+        return refusals::CODE;
     }
-    0
+    refusals::ACCEPTED
 }

@@ -6,6 +6,7 @@ use mathlib.Core.Path.{_≡_, sym}
 use native.Mathlib.Omega.{arith}
 use lib.IntN.{pos}
 use lib.ListN.{replicate}
+use Rattle.theory.specs.Verdict.{acceptedNumber}
 use Rattle.cells.specs.Limits.{maxPorts}
 use Rattle.program.specs.Tables.{Tables}
 use Rattle.program.specs.Program.{programOf}
@@ -16,13 +17,14 @@ use Rattle.machine.specs.Advance.{stateOf, freshAnswer, Advance, step, a
 
 module _ (T : Tables) where
   -- a program that is refused: all 0
-  pub fresh-refused : (n : ℕ) → n ≡ programVerdict T → 0 < n → record { number = n; state = stateOf (replicate maxPorts (pos 0)) } ≡ freshAnswer T
+  pub fresh-refused : (n : ℕ) → n ≡ programVerdict T → acceptedNumber < n → record { number = n; state = stateOf (replicate maxPorts (pos 0)) } ≡ freshAnswer T
   unfolding freshAnswer
   fresh-refused zero e l = absurd (omega arith)
   fresh-refused (suc n) e l = rw (sym e, freshAnswer)
 
   -- one that is accepted: the first values
-  pub fresh-accepted : programVerdict T ≡ 0 → record { number = 0; state = stateOf (programOf T .first) } ≡ freshAnswer T
+  pub fresh-accepted : programVerdict T ≡ acceptedNumber
+      → record { number = acceptedNumber; state = stateOf (programOf T .first) } ≡ freshAnswer T
   unfolding freshAnswer
   fresh-accepted e = rw (e, freshAnswer)
 
@@ -32,12 +34,12 @@ module _ (L : Advance) where
   outcome = step (programOf (L .tables)) (instructions (L .code)) (L .schedule) (L .lent) (L .state)
 
   -- a number before anything runs: the state as it was
-  pub advance-refused : (n : ℕ) → n ≡ advanceVerdict L → 0 < n → record { number = n; state = L .state } ≡ advanceAnswer L
+  pub advance-refused : (n : ℕ) → n ≡ advanceVerdict L → acceptedNumber < n → record { number = n; state = L .state } ≡ advanceAnswer L
   unfolding advanceAnswer
   advance-refused zero e l = absurd (omega arith)
   advance-refused (suc n) e l = rw (sym e, advanceAnswer)
 
   -- none: the step
-  pub advance-steps : advanceVerdict L ≡ 0 → answer (L .state) outcome ≡ advanceAnswer L
+  pub advance-steps : advanceVerdict L ≡ acceptedNumber → answer (L .state) outcome ≡ advanceAnswer L
   unfolding advanceAnswer
   advance-steps e = rw (e, advanceAnswer)

@@ -10,6 +10,7 @@ use native.Mathlib.Decide.{decLt}
 use lib.IntN.{ℤ}
 use Rattle.theory.proofs.Bools.{clash}
 use Rattle.cells.specs.Limits.{suppliers}
+use Rattle.cells.specs.Refusals.{collisionRefused}
 use Rattle.program.specs.Program.{Program}
 use Rattle.runs.specs.Tick.{Act, rest, run, runs}
 use Rattle.machine.specs.declared.State.{State}
@@ -67,10 +68,11 @@ collides S s = (there, λ c. two-are-several (actOf S s) suppliers (c .one-suppl
         record { one-supplier = k .0; other-supplier = k .1; apart = k .2; in-range = k .3; one-runs = k .4; other-runs = k .5 }
 
 -- and a tick is refused, with 18, exactly then
-pub tick-refused : (P : Program) (S results : List ℤ) (s : State) (n : ℕ) → (tickAll P S results s ≡ stop n) ↔ ((n ≡ 18) × Collision S s)
+pub tick-refused : (P : Program) (S results : List ℤ) (s : State) (n : ℕ)
+    → (tickAll P S results s ≡ stop n) ↔ ((n ≡ collisionRefused) × Collision S s)
 tick-refused P S results s n = go (running S s) refl
   where
-    go : (w : Who) → running S s ≡ w → (ticked P S results s w ≡ stop n) ↔ ((n ≡ 18) × Collision S s)
+    go : (w : Who) → running S s ≡ w → (ticked P S results s w ≡ stop n) ↔ ((n ≡ collisionRefused) × Collision S s)
     go nobody e = (λ q. absurd (ok-not-stop q), λ c. absurd (not-nobody (sym e ∙ collides S s .1 (c .1))))
     go (one t) e = (λ q. absurd (ok-not-stop q), λ c. absurd (not-one (sym e ∙ collides S s .1 (c .1))))
     go several e = (λ q. (sym (stopped q), collides S s .0 e), λ c. ap stop (sym (c .0)))

@@ -8,8 +8,9 @@ use mathlib.Core.Logic.{_⊎_, inl, inr, _↔_}
 use native.Mathlib.Omega.{arith}
 use lib.ListN.{length}
 use Rattle.theory.specs.Claim.{Says}
-use Rattle.theory.specs.Verdict.{orElse}
+use Rattle.theory.specs.Verdict.{acceptedNumber, orElse}
 use Rattle.theory.proofs.Bools.{clash, is-false}
+use Rattle.cells.specs.Refusals.{timeRefused, overrunRefused, faultyRefused}
 use Rattle.code.specs.Op.{Op, call, schedule, branch, jump, future, return, faulty}
 use Rattle.machine.specs.declared.State.{State}
 use Rattle.machine.specs.declared.At.{At}
@@ -36,27 +37,29 @@ module _ (F T R : Type 0) where
   -- of 19, 16 and 17 in this order, n is the first that applies, or 0
   abbrev pub Order : ℕ → Type 0
   Order n =
-      ((n ≡ 19) × F)
-      ⊎ (((n ≡ 16) × (F → ⊥) × T) ⊎ (((n ≡ 17) × (F → ⊥) × (T → ⊥) × R) ⊎ ((n ≡ 0) × (F → ⊥) × (T → ⊥) × (R → ⊥))))
+      ((n ≡ faultyRefused) × F)
+      ⊎ (((n ≡ timeRefused) × (F → ⊥) × T)
+      ⊎ (((n ≡ overrunRefused) × (F → ⊥) × (T → ⊥) × R) ⊎ ((n ≡ acceptedNumber) × (F → ⊥) × (T → ⊥) × (R → ⊥))))
 
-  in-order : (f t r : Bool) → Says f F → Says t T → Says r R → (n : ℕ) → (orElse f 19 (orElse t 16 (orElse r 17 0)) ≡ n) ↔ Order n
+  in-order : (f t r : Bool) → Says f F → Says t T → Says r R → (n : ℕ)
+      → (orElse f faultyRefused (orElse t timeRefused (orElse r overrunRefused acceptedNumber)) ≡ n) ↔ Order n
   in-order true t r s m w n = (λ e. inl (sym e, s .yes refl), back)
     where
-      back : Order n → 19 ≡ n
+      back : Order n → faultyRefused ≡ n
       back (inl x) = sym (x .0)
       back (inr (inl x)) = absurd (x .1 (s .yes refl))
       back (inr (inr (inl x))) = absurd (x .1 (s .yes refl))
       back (inr (inr (inr x))) = absurd (x .1 (s .yes refl))
   in-order false true r s m w n = (λ e. inr (inl (sym e, s .no refl, m .yes refl)), back)
     where
-      back : Order n → 16 ≡ n
+      back : Order n → timeRefused ≡ n
       back (inl x) = absurd (s .no refl (x .1))
       back (inr (inl x)) = sym (x .0)
       back (inr (inr (inl x))) = absurd (x .2 (m .yes refl))
       back (inr (inr (inr x))) = absurd (x .2 (m .yes refl))
   in-order false false true s m w n = (λ e. inr (inr (inl (sym e, s .no refl, m .no refl, w .yes refl))), back)
     where
-      back : Order n → 17 ≡ n
+      back : Order n → overrunRefused ≡ n
       back (inl x) = absurd (s .no refl (x .1))
       back (inr (inl x)) = absurd (m .no refl (x .2))
       back (inr (inr (inl x))) = sym (x .0)
@@ -90,8 +93,8 @@ module _ (L : Advance) where
       (running-says (a .state) (standing L a)) n
 
   -- no test refuses it: no claim of a refusal holds
-  cleared : (a : At) → number a ≡ 0 → (FaultyAt L a → ⊥) × (TimeBadAt L a → ⊥) × (RunningAt L a → ⊥)
-  cleared a r = go (instruction-refused a 0 .0 r)
+  cleared : (a : At) → number a ≡ acceptedNumber → (FaultyAt L a → ⊥) × (TimeBadAt L a → ⊥) × (RunningAt L a → ⊥)
+  cleared a r = go (instruction-refused a acceptedNumber .0 r)
     where
       go : Order (FaultyAt L a) (TimeBadAt L a) (RunningAt L a) 0 → (FaultyAt L a → ⊥) × (TimeBadAt L a → ⊥) × (RunningAt L a → ⊥)
       go (inl x) = absurd (omega (arith, x .0))
@@ -107,27 +110,28 @@ module _ (L : Advance) where
   )
 
   -- an instruction is passed exactly where no test refuses it and it is no `return`
-  passed-says : (a : At) → Passed L a ↔ ((number a ≡ 0) × (isReturn (standing L a) ≡ false))
+  passed-says : (a : At) → Passed L a ↔ ((number a ≡ acceptedNumber) × (isReturn (standing L a) ≡ false))
   passed-says a = (there, back)
     where
-      there : Passed L a → (number a ≡ 0) × (isReturn (standing L a) ≡ false)
+      there : Passed L a → (number a ≡ acceptedNumber) × (isReturn (standing L a) ≡ false)
       there p = (
-        instruction-refused a 0 .1 (inr (inr (inr (refl, p .not-faulty, p .in-time, p .not-running)))),
+        instruction-refused a acceptedNumber .1 (inr (inr (inr (refl, p .not-faulty, p .in-time, p .not-running)))),
         is-false (return-says (standing L a)) (p .no-return),
       )
 
-      back : (number a ≡ 0) × (isReturn (standing L a) ≡ false) → Passed L a
+      back : (number a ≡ acceptedNumber) × (isReturn (standing L a) ≡ false) → Passed L a
       back (r, i) =
           let c = cleared a r in
           record { not-faulty = c .0; in-time = c .1; not-running = c .2; no-return = return-says (standing L a) .no i }
 
   -- one instruction more at the end of a stretch
-  more : (n : ℕ) (a b c : At) → Stretch n a b → number b ≡ 0 → isReturn (standing L b) ≡ false → next b ≡ c → Stretch (suc n) a c
+  more : (n : ℕ) (a b c : At) → Stretch n a b → number b ≡ acceptedNumber → isReturn (standing L b) ≡ false → next b ≡ c
+      → Stretch (suc n) a c
   more zero a b c e r i q = subst (λ (x : At). Stretch 1 x c) (sym e) (r, i, q)
   more (suc n) a b c g r i q = (g .0, g .1, more n (next a) b c (g .2) r i q)
 
   -- the last instruction of a stretch
-  last-of : (n : ℕ) (a c : At) → Stretch (suc n) a c → (b : At) × Stretch n a b × (number b ≡ 0) × (isReturn (standing L b) ≡ false) × (next b ≡ c)
+  last-of : (n : ℕ) (a c : At) → Stretch (suc n) a c → (b : At) × Stretch n a b × (number b ≡ acceptedNumber) × (isReturn (standing L b) ≡ false) × (next b ≡ c)
   last-of zero a c g = (a, refl, g .0, g .1, g .2)
   last-of (suc n) a c g = let (b, s, r, i, q) = last-of n (next a) c (g .2) in (b, (g .0, g .1, s), r, i, q)
 
@@ -153,7 +157,7 @@ module _ (L : Advance) where
           last = w .at;
           in-count = w .reaches .in-count;
           goes = comes-goes (w .reaches .before) (w .at) (w .reaches .comes);
-          not-refused = instruction-refused (w .at) 0 .1 (inr (inr (inr (refl, w .not-faulty, only-faulty (w .at) (w .is-return) .0, only-faulty (w .at) (w .is-return) .1))));
+          not-refused = instruction-refused (w .at) acceptedNumber .1 (inr (inr (inr (refl, w .not-faulty, only-faulty (w .at) (w .is-return) .0, only-faulty (w .at) (w .is-return) .1))));
           returns = ap isReturn (w .is-return);
           leaves = w .leaves;
         },

@@ -6,6 +6,7 @@ use native.Mathlib.Decide.{decLt}
 use native.Mathlib.Omega.{arith}
 use lib.IntN.{pos}
 use lib.ListN.{length, List·getD-eq-default}
+use Rattle.theory.specs.Verdict.{acceptedNumber}
 use Rattle.theory.proofs.Lists.{each-length, each-at}
 use Rattle.cells.specs.Limits.{maxPorts}
 use Rattle.program.specs.Tables.{Tables, portWidth, portCount, portFirst}
@@ -22,18 +23,19 @@ use Rattle.machine.proofs.Answered.{fresh-refused, fresh-accepted}
 module _ (T : Tables) where
   -- the number is the program verdict's
   pub fresh-number : freshAnswer T .number ≡ programVerdict T
-  fresh-number = go (decLt 0 (programVerdict T))
+  fresh-number = go (decLt acceptedNumber (programVerdict T))
     where
-      go : Dec (0 < programVerdict T) → freshAnswer T .number ≡ programVerdict T
+      go : Dec (acceptedNumber < programVerdict T) → freshAnswer T .number ≡ programVerdict T
       go (yes l) = sym (ap (λ (a : Advanced). a .number) (fresh-refused T (programVerdict T) refl l))
       go (no l) =
-          let z : programVerdict T ≡ 0 = omega (arith, l) in sym (ap (λ (a : Advanced). a .number) (fresh-accepted T z)) ∙ sym z
+          let z : programVerdict T ≡ acceptedNumber = omega (arith, l) in
+          sym (ap (λ (a : Advanced). a .number) (fresh-accepted T z)) ∙ sym z
 
   -- refused, it is all 0
-  pub fresh-zero : (freshAnswer T .number ≡ 0 → ⊥) → AllZero (freshAnswer T .state)
-  fresh-zero h = go (decLt 0 (programVerdict T))
+  pub fresh-zero : (freshAnswer T .number ≡ acceptedNumber → ⊥) → AllZero (freshAnswer T .state)
+  fresh-zero h = go (decLt acceptedNumber (programVerdict T))
     where
-      go : Dec (0 < programVerdict T) → AllZero (freshAnswer T .state)
+      go : Dec (acceptedNumber < programVerdict T) → AllZero (freshAnswer T .state)
       go (yes l) = subst (λ (a : Advanced). AllZero (a .state)) (fresh-refused T (programVerdict T) refl l)
           (record {
             ports = refl;
@@ -59,9 +61,9 @@ module _ (T : Tables) where
           List·getD-eq-default (programOf T .first) (pos 0) past
 
   -- accepted, it has the first values in the first two and 0 elsewhere
-  pub fresh-first : freshAnswer T .number ≡ 0 → Fresh T (freshAnswer T .state)
+  pub fresh-first : freshAnswer T .number ≡ acceptedNumber → Fresh T (freshAnswer T .state)
   fresh-first e =
-      let z : programVerdict T ≡ 0 = sym fresh-number ∙ e in
+      let z : programVerdict T ≡ acceptedNumber = sym fresh-number ∙ e in
       let f = first-values (accepted-shaped T z) in
       subst (λ (a : Advanced). Fresh T (a .state)) (fresh-accepted T z)
       (record {

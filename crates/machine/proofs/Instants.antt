@@ -10,6 +10,8 @@ use lib.Dec.{ltb}
 use lib.IntN.{ℤ}
 use lib.ListN.{length}
 use borrow.Author.Tests.{ltb-true, ltb-false, lt-ltb, le-ltb}
+use Rattle.theory.specs.Verdict.{acceptedNumber}
+use Rattle.cells.specs.Refusals.{faultyRefused, countRefused}
 use Rattle.program.specs.Program.{Program}
 use Rattle.code.specs.Op.{Op}
 use Rattle.machine.specs.declared.State.{State}
@@ -24,7 +26,7 @@ module _ (P : Program) (readings times : List ℤ) (code : List Op) where
   Claim count a (stop n) = RefusedAt P readings times code count a n ⊎ Spent P readings times code count a n
 
   -- one instruction more at the front
-  further : (count : ℕ) (a : At) → refusalAt P readings times code a ≡ 0 → isReturn (fetch P readings times code a) ≡ false
+  further : (count : ℕ) (a : At) → refusalAt P readings times code a ≡ acceptedNumber → isReturn (fetch P readings times code a) ≡ false
       → (o : Outcome) → Claim count (executes P readings times (fetch P readings times code a) a) o → Claim (suc count) a o
   further count a r n (ok s) c = record {
     before = suc (c .before);
@@ -49,7 +51,7 @@ module _ (P : Program) (readings times : List ℤ) (code : List Op) where
   comes : (count : ℕ) (a : At) → Claim count a (run P readings times code count a)
   comes zero a = go (ltb (a .address) (length code)) refl
     where
-      go : (b : Bool) → ltb (a .address) (length code) ≡ b → Claim 0 a (elim b [ true ↦ stop 20 | false ↦ stop 19 ])
+      go : (b : Bool) → ltb (a .address) (length code) ≡ b → Claim 0 a (elim b [ true ↦ stop countRefused | false ↦ stop faultyRefused ])
       go true e = inr (record { last = a; goes = refl; spent = inl (ltb-true (a .address) (length code) e, refl) })
       go false e = inr (record { last = a; goes = refl; spent = inr (ltb-false (a .address) (length code) e, refl) })
   comes (suc count) a =
@@ -67,7 +69,7 @@ module _ (P : Program) (readings times : List ℤ) (code : List Op) where
       go (suc n) e false f c = inl (record { before = 0; last = a; in-count = omega arith; goes = refl; some-number = omega arith; refused = e })
 
   -- one instruction that is not refused and no `return`
-  pub passes : (count : ℕ) (a : At) → refusalAt P readings times code a ≡ 0 → isReturn (fetch P readings times code a) ≡ false
+  pub passes : (count : ℕ) (a : At) → refusalAt P readings times code a ≡ acceptedNumber → isReturn (fetch P readings times code a) ≡ false
       → run P readings times code (suc count) a ≡ run P readings times code count (executes P readings times (fetch P readings times code a) a)
   passes count a r e = rw (r, run) (rw e)
 
@@ -85,11 +87,11 @@ module _ (P : Program) (readings times : List ℤ) (code : List Op) where
       ∙ ap (λ (c : ℕ). run P readings times code c b) z
 
   -- a `return` that is not refused ends it
-  pub at-return : (count : ℕ) (a : At) → refusalAt P readings times code a ≡ 0 → isReturn (fetch P readings times code a) ≡ true → run P readings times code (suc count) a ≡ ok (a .state)
+  pub at-return : (count : ℕ) (a : At) → refusalAt P readings times code a ≡ acceptedNumber → isReturn (fetch P readings times code a) ≡ true → run P readings times code (suc count) a ≡ ok (a .state)
   at-return count a r e = rw (r, run) (rw e)
 
   -- a refusal does, with its number
-  pub at-refusal : (count : ℕ) (a : At) (n : ℕ) → 1 ≤ n → refusalAt P readings times code a ≡ n → run P readings times code (suc count) a ≡ stop n
+  pub at-refusal : (count : ℕ) (a : At) (n : ℕ) → acceptedNumber < n → refusalAt P readings times code a ≡ n → run P readings times code (suc count) a ≡ stop n
   at-refusal count a zero l r = absurd (omega arith)
   at-refusal count a (suc n) l r = rw (r, run)
 
@@ -115,7 +117,7 @@ module _ (P : Program) (readings times : List ℤ) (code : List Op) where
       a : At
       a = startAt P readings times code u
 
-      ending : (b : At) → ((b .address < length code) × (n ≡ 20)) ⊎ ((length code ≤ b .address) × (n ≡ 19)) → run P readings times code 0 b ≡ stop n
+      ending : (b : At) → ((b .address < length code) × (n ≡ countRefused)) ⊎ ((length code ≤ b .address) × (n ≡ faultyRefused)) → run P readings times code 0 b ≡ stop n
       ending b (inl x) = rw (lt-ltb (b .address) (length code) (x .0), ended) (ap stop (sym (x .1)))
       ending b (inr x) = rw (le-ltb (b .address) (length code) (x .0), ended) (ap stop (sym (x .1)))
 

@@ -13,6 +13,7 @@ use lib.ListN.{length, getD, set, List·getD-eq-default}
 use lib.Seq.{getD-set-same, getD-set-other, set-out}
 use borrow.Author.Tests.{leb-false}
 use Rattle.theory.specs.Lists.{member}
+use Rattle.theory.specs.Verdict.{acceptedNumber}
 use Rattle.theory.proofs.Bools.{clash, neither, bars-not, says-itself}
 use Rattle.theory.proofs.Puts.{puts-other}
 use Rattle.theory.proofs.Verdict.{Clear, verdict-clear}
@@ -152,7 +153,7 @@ module _ (P : Program) (readings times : List ℤ) (code : List Op) (s : State) 
   step-kept a faulty e f t r n k = clash {b = true} refl f
 
   -- an instruction that is not refused: no test of it applies
-  clear : (a : At) → refusalAt P readings times code a ≡ 0 → Clear (instructionRefusals P readings times (length code) (fetch P readings times code a)) a
+  clear : (a : At) → refusalAt P readings times code a ≡ acceptedNumber → Clear (instructionRefusals P readings times (length code) (fetch P readings times code a)) a
   clear a e = verdict-clear (instructionRefusals P readings times (length code) (fetch P readings times code a)) a (omega arith) e
 
   -- a stretch of them

@@ -12,6 +12,7 @@ use lib.IntN.{ℤ, pos}
 use lib.ListN.{length, getD, set, List·getD-eq-default}
 use lib.Seq.{getD-set-same, getD-set-other, set-out}
 use Rattle.theory.specs.Lists.{each, member, puts}
+use Rattle.theory.specs.Verdict.{acceptedNumber}
 use Rattle.theory.proofs.Lists.{each-at}
 use Rattle.theory.proofs.Puts.{puts-other}
 use Rattle.cells.specs.Limits.{suppliers}
@@ -103,22 +104,22 @@ tick-passes P S results s u = go (running S s) refl
 
 module _ (L : Advance) where
   -- an advance answers 0 only with what its step leaves
-  pub accepted : advanceAnswer L .number ≡ 0 → outcome L ≡ ok (advanceAnswer L .state)
-  accepted z = go (decLt 0 (advanceVerdict L))
+  pub accepted : advanceAnswer L .number ≡ acceptedNumber → outcome L ≡ ok (advanceAnswer L .state)
+  accepted z = go (decLt acceptedNumber (advanceVerdict L))
     where
-      end : (o : Outcome) → outcome L ≡ o → answer (L .state) o .number ≡ 0 → o ≡ ok (answer (L .state) o .state)
+      end : (o : Outcome) → outcome L ≡ o → answer (L .state) o .number ≡ acceptedNumber → o ≡ ok (answer (L .state) o .state)
       end (ok u) e q = refl
       end (stop n) e q = absurd (omega (arith, q, step-number (program L) (code L) (L .schedule) (L .lent) (L .state) n e))
 
-      go : Dec (0 < advanceVerdict L) → outcome L ≡ ok (advanceAnswer L .state)
+      go : Dec (acceptedNumber < advanceVerdict L) → outcome L ≡ ok (advanceAnswer L .state)
       go (yes l) = absurd (omega (arith, z, l, ap (λ (a : Advanced). a .number) (advance-refused L (advanceVerdict L) refl l)))
       go (no l) =
-          let v : advanceVerdict L ≡ 0 = omega (arith, l) in
+          let v : advanceVerdict L ≡ acceptedNumber = omega (arith, l) in
           let e = advance-steps L v in
           end (outcome L) refl (ap (λ (a : Advanced). a .number) e ∙ z) ∙ ap (λ (a : Advanced). ok (a .state)) e
 
   -- the state before its tick
-  before : advanceAnswer L .number ≡ 0
+  before : advanceAnswer L .number ≡ acceptedNumber
       → (v : State) × BeforeTick L v × Passes (program L) (L .schedule) (L .lent .results) v (advanceAnswer L .state)
   before z =
       let w = step-leaves (program L) (code L) (L .schedule) (L .lent) (L .state) (advanceAnswer L .state) (accepted z) in (
@@ -128,7 +129,7 @@ module _ (L : Advance) where
       )
 
   -- so an accepted advance changes only what the claims say
-  pub advance-moves : advanceAnswer L .number ≡ 0 → Advances L (advanceAnswer L .state)
+  pub advance-moves : advanceAnswer L .number ≡ acceptedNumber → Advances L (advanceAnswer L .state)
   advance-moves z = let (v, b, p) = before z in record { between = v; begun = begun v b; passes = p }
     where
       begun : (v : State) → BeforeTick L v
@@ -138,7 +139,7 @@ module _ (L : Advance) where
           inr (w .reaches .no-tick-left, instant-keeps (program L) (L .lent .readings) (L .lent .times) (code L) (L .state) v (returns L v .0 w .1))
 
   -- and an instant of it came to its end within as many instructions as the code has
-  pub instant-counted : advanceAnswer L .number ≡ 0 → L .state .remaining ≡ 0 → (u : State) × Returns L u
+  pub instant-counted : advanceAnswer L .number ≡ acceptedNumber → L .state .remaining ≡ 0 → (u : State) × Returns L u
   instant-counted z r = let (v, b, p) = before z in (v, ends v b)
     where
       ends : (v : State) → BeforeTick L v → Returns L v

@@ -8,6 +8,8 @@ use native.Mathlib.Decide.{decLt}
 use native.Mathlib.Omega.{arith}
 use lib.IntN.{ℤ}
 use lib.ListN.{length}
+use Rattle.theory.specs.Verdict.{acceptedNumber}
+use Rattle.cells.specs.Refusals.{faultyRefused, countRefused}
 use Rattle.program.specs.Program.{Program}
 use Rattle.code.specs.Op.{Op}
 use Rattle.machine.specs.declared.State.{State}
@@ -20,38 +22,40 @@ use Rattle.machine.proofs.Ready.{ready-stops, step-refused}
 use Rattle.machine.proofs.Answered.{outcome, advance-refused, advance-steps}
 
 -- an advance that is refused hands the state back as it was
-pub refused-keeps : (L : Advance) → (advanceAnswer L .number ≡ 0 → ⊥) → advanceAnswer L .state ≡ L .state
-refused-keeps L h = go (decLt 0 (advanceVerdict L))
+pub refused-keeps : (L : Advance) → (advanceAnswer L .number ≡ acceptedNumber → ⊥) → advanceAnswer L .state ≡ L .state
+refused-keeps L h = go (decLt acceptedNumber (advanceVerdict L))
   where
-    end : (o : Outcome) → (answer (L .state) o .number ≡ 0 → ⊥) → answer (L .state) o .state ≡ L .state
+    end : (o : Outcome) → (answer (L .state) o .number ≡ acceptedNumber → ⊥) → answer (L .state) o .state ≡ L .state
     end (ok u) h = absurd (h refl)
     end (stop n) h = refl
 
-    go : Dec (0 < advanceVerdict L) → advanceAnswer L .state ≡ L .state
+    go : Dec (acceptedNumber < advanceVerdict L) → advanceAnswer L .state ≡ L .state
     go (yes l) = sym (ap (λ (a : Advanced). a .state) (advance-refused L (advanceVerdict L) refl l))
     go (no l) =
-        let z : advanceVerdict L ≡ 0 = omega (arith, l) in
+        let z : advanceVerdict L ≡ acceptedNumber = omega (arith, l) in
         let e = advance-steps L z in
         sym (ap (λ (a : Advanced). a .state) e) ∙ end (outcome L) (λ q. h (sym (ap (λ (a : Advanced). a .number) e) ∙ q))
 
 -- the E part of an advance is refused with no 0
-pub ready-number : (P : Program) (code : List Op) (readings times : List ℤ) (s : State) (n : ℕ) → ready P code readings times s ≡ stop n → 1 ≤ n
+pub ready-number : (P : Program) (code : List Op) (readings times : List ℤ) (s : State) (n : ℕ) → ready P code readings times s ≡ stop n → acceptedNumber < n
 ready-number P code readings times s n e = number (ready-stops P code readings times s n .0 e .1)
   where
-    number : RefusedAt P readings times code (length code) (startAt P readings times code s) n ⊎ Spent P readings times code (length code) (startAt P readings times code s) n → 1 ≤ n
+    number : RefusedAt P readings times code (length code) (startAt P readings times code s) n ⊎ Spent P readings times code (length code) (startAt P readings times code s) n → acceptedNumber < n
     number (inl r) = r .some-number
     number (inr w) = end (w .spent)
       where
-        end : ((w .last .address < length code) × (n ≡ 20)) ⊎ ((length code ≤ w .last .address) × (n ≡ 19)) → 1 ≤ n
+        end : ((w .last .address < length code) × (n ≡ countRefused)) ⊎ ((length code ≤ w .last .address) × (n ≡ faultyRefused))
+            → acceptedNumber < n
         end (inl x) = omega (arith, x .1)
         end (inr x) = omega (arith, x .1)
 
 -- so 0 is given only where the state moves
-pub step-number : (P : Program) (code : List Op) (S : List ℤ) (X : Lent) (s : State) (n : ℕ) → step P code S X s ≡ stop n → 1 ≤ n
+pub step-number : (P : Program) (code : List Op) (S : List ℤ) (X : Lent) (s : State) (n : ℕ) → step P code S X s ≡ stop n
+    → acceptedNumber < n
 step-number P code S X s n e = go (step-refused P code S X s n .0 e)
   where
     go : (ready P code (X .readings) (X .times) s ≡ stop n)
         ⊎ ((v : State) × (ready P code (X .readings) (X .times) s ≡ ok v) × (tickAll P S (X .results) v ≡ stop n))
-        → 1 ≤ n
+        → acceptedNumber < n
     go (inl f) = ready-number P code (X .readings) (X .times) s n f
     go (inr w) = omega (arith, tick-refused P S (X .results) (w .0) n .0 (w .2) .0)

@@ -7,6 +7,8 @@ use mathlib.Core.Logic.{_⊎_, inl, inr, _↔_}
 use native.Mathlib.Omega.{arith}
 use lib.IntN.{ℤ}
 use lib.ListN.{length}
+use Rattle.theory.specs.Verdict.{acceptedNumber}
+use Rattle.cells.specs.Refusals.{timeRefused, overrunRefused, collisionRefused, faultyRefused, countRefused}
 use Rattle.program.specs.Program.{Program}
 use Rattle.machine.specs.declared.State.{State}
 use Rattle.machine.specs.declared.At.{At}
@@ -42,7 +44,9 @@ module _ (L : Advance) where
 
   -- an instant is refused with n, in the words of document 01
   abbrev pub InstantStops : ℕ → Type 0
-  InstantStops n = ((n ≡ 19) × Faults L) ⊎ (((n ≡ 16) × TimeWrong L) ⊎ (((n ≡ 17) × Overruns L) ⊎ ((n ≡ 20) × RunsOn L)))
+  InstantStops n =
+      ((n ≡ faultyRefused) × Faults L)
+      ⊎ (((n ≡ timeRefused) × TimeWrong L) ⊎ (((n ≡ overrunRefused) × Overruns L) ⊎ ((n ≡ countRefused) × RunsOn L)))
 
   -- at an instruction
   reached : (n : ℕ) → L .state .remaining ≡ 0 → Refused n → InstantStops n
@@ -57,7 +61,7 @@ module _ (L : Advance) where
       go (inr (inr (inl x))) = inr (inr (inl (x .0, (r .last, reaches, x .1, x .2, x .3))))
       go (inr (inr (inr x))) = absurd (omega (arith, x .0, r .some-number))
 
-  refused : (n : ℕ) (a : At) → Reaches L a → 1 ≤ n → Order (FaultyAt L a) (TimeBadAt L a) (RunningAt L a) n → (L .state .remaining ≡ 0) × (Refused n ⊎ AllRun n)
+  refused : (n : ℕ) (a : At) → Reaches L a → acceptedNumber < n → Order (FaultyAt L a) (TimeBadAt L a) (RunningAt L a) n → (L .state .remaining ≡ 0) × (Refused n ⊎ AllRun n)
   refused n a r l o = (
     r .no-tick-left,
     inl (record {
@@ -77,11 +81,13 @@ module _ (L : Advance) where
       all : RanAll L (w .last)
       all = record { no-tick-left = z; comes = goes-comes L (length (code L)) (w .last) (w .goes) }
 
-      go : ((w .last .address < length (code L)) × (n ≡ 20)) ⊎ ((length (code L) ≤ w .last .address) × (n ≡ 19)) → InstantStops n
+      go : ((w .last .address < length (code L)) × (n ≡ countRefused)) ⊎ ((length (code L) ≤ w .last .address) × (n ≡ faultyRefused))
+          → InstantStops n
       go (inl x) = inr (inr (inr (x .1, (w .last, all, x .0))))
       go (inr x) = inl (x .1, inr (w .last, all, x .0))
 
-  spent : (n : ℕ) (a : At) → RanAll L a → ((a .address < length (code L)) × (n ≡ 20)) ⊎ ((length (code L) ≤ a .address) × (n ≡ 19))
+  spent : (n : ℕ) (a : At) → RanAll L a
+      → ((a .address < length (code L)) × (n ≡ countRefused)) ⊎ ((length (code L) ≤ a .address) × (n ≡ faultyRefused))
       → (L .state .remaining ≡ 0) × (Refused n ⊎ AllRun n)
   spent n a r o = (r .no-tick-left, inr (record { last = a; goes = comes-goes L (length (code L)) a (r .comes); spent = o }))
 
@@ -125,7 +131,7 @@ module _ (L : Advance) where
       back (inr w) = inr (returns L u .0 w)
 
   -- the step is refused: in its instant, or with 18 in its tick
-  pub outcome-stops : (n : ℕ) → (outcome L ≡ stop n) ↔ (InstantStops n ⊎ ((n ≡ 18) × Collides L))
+  pub outcome-stops : (n : ℕ) → (outcome L ≡ stop n) ↔ (InstantStops n ⊎ ((n ≡ collisionRefused) × Collides L))
   outcome-stops n = (λ e. there (steps .0 e), λ w. steps .1 (back w))
     where
       steps : (outcome L ≡ stop n)
@@ -133,12 +139,12 @@ module _ (L : Advance) where
       steps = step-refused (program L) (code L) (L .schedule) (L .lent) (L .state) n
 
       there : (begins ≡ stop n) ⊎ ((v : State) × (begins ≡ ok v) × (tickAll (program L) (L .schedule) (L .lent .results) v ≡ stop n))
-          → InstantStops n ⊎ ((n ≡ 18) × Collides L)
+          → InstantStops n ⊎ ((n ≡ collisionRefused) × Collides L)
       there (inl e) = inl (instant-stops n .0 e)
       there (inr (v, b, t)) =
           let c = tick-refused (program L) (L .schedule) (L .lent .results) v n .0 t in inr (c .0, (v, before-tick v .0 b, c .1))
 
-      back : InstantStops n ⊎ ((n ≡ 18) × Collides L)
+      back : InstantStops n ⊎ ((n ≡ collisionRefused) × Collides L)
           → (begins ≡ stop n) ⊎ ((v : State) × (begins ≡ ok v) × (tickAll (program L) (L .schedule) (L .lent .results) v ≡ stop n))
       back (inl w) = inl (instant-stops n .1 w)
       back (inr (e, (v, b, c))) =
@@ -150,7 +156,7 @@ module _ (L : Advance) where
       let (v, b, t) = step-leaves (program L) (code L) (L .schedule) (L .lent) (L .state) u e in (
         v,
         before-tick v .0 b,
-        λ c. ok-not-stop (sym t ∙ tick-refused (program L) (L .schedule) (L .lent .results) v 18 .1 (refl, c)),
+        λ c. ok-not-stop (sym t ∙ tick-refused (program L) (L .schedule) (L .lent .results) v collisionRefused .1 (refl, c)),
       )
 
   pub passes-outcome : TickPasses L → (u : State) × (outcome L ≡ ok u)

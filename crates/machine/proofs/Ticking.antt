@@ -6,6 +6,8 @@ use mathlib.Core.List.{List}
 use native.Mathlib.Omega.{arith}
 use lib.Dec.{eqb}
 use lib.IntN.{ℤ}
+use Rattle.theory.specs.Verdict.{acceptedNumber}
+use Rattle.cells.specs.Refusals.{collisionRefused}
 use Rattle.program.specs.Tables.{Tables, taskCount}
 use Rattle.program.specs.Program.{Program}
 use Rattle.runs.specs.declared.turn.Turn.{Turn}
@@ -84,10 +86,10 @@ module _ (S : List ℤ) (s : State) (all : Shares) (is-all : all ≡ sharesOf S 
 
   module _ (P : Program) (results : List ℤ) where
     -- two run: 18, with the state as before
-    pub tick-collides : 1 < all .running .count → record { number = 18; state = s } ≡ answer s (tickAll P S results s)
+    pub tick-collides : 1 < all .running .count → record { number = collisionRefused; state = s } ≡ answer s (tickAll P S results s)
     tick-collides h = go (running S s) refl
       where
-        go : (w : Who) → running S s ≡ w → record { number = 18; state = s } ≡ answer s (ticked P S results s w)
+        go : (w : Who) → running S s ≡ w → record { number = collisionRefused; state = s } ≡ answer s (ticked P S results s w)
         go nobody e = absurd (omega (arith, counts nobody e))
         go (one t) e = absurd (omega (arith, counts (one t) e))
         go several e = refl
@@ -97,17 +99,17 @@ module _ (S : List ℤ) (s : State) (all : Shares) (is-all : all ≡ sharesOf S 
         (is-left : left ≡ afterTurn (turnIn (all .running)) (s .left)) (is-next : next ≡ tickPassed s left outputs (all .positions)) where
       -- where the first two are those of the definition, so is the answer
       comes : (left′ : List ℕ) (outputs′ : List ℤ) → left ≡ left′ → outputs ≡ outputs′
-          → record { number = 0; state = next } ≡ answer s (ok (afterTick S s left′ outputs′))
+          → record { number = acceptedNumber; state = next } ≡ answer s (ok (afterTick S s left′ outputs′))
       comes left′ outputs′ l o =
           let p : all .positions ≡ sharesOf S s .positions = ap (λ (a : Shares). a .positions) is-all in
-          ap (λ (u : State). record { number = 0; state = u }) is-next ∙ (λ i. record { number = 0; state = tickPassed s (l i) (o i) (p i) })
+          ap (λ (u : State). record { number = acceptedNumber; state = u }) is-next ∙ (λ i. record { number = acceptedNumber; state = tickPassed s (l i) (o i) (p i) })
 
       -- nobody runs: outputs and remaining times are as before
       pub tick-rests : all .running .count ≡ 0 → outputs ≡ s .outputs
-          → record { number = 0; state = next } ≡ answer s (tickAll P S results s)
+          → record { number = acceptedNumber; state = next } ≡ answer s (tickAll P S results s)
       tick-rests h o = go (running S s) refl
         where
-          go : (w : Who) → running S s ≡ w → record { number = 0; state = next } ≡ answer s (ticked P S results s w)
+          go : (w : Who) → running S s ≡ w → record { number = acceptedNumber; state = next } ≡ answer s (ticked P S results s w)
           go nobody e =
               let l : left ≡ s .left = is-left ∙ ap (λ (r : Running). afterTurn (turnIn r) (s .left)) (handed nobody e) ∙ turn-after 0 rest (s .left) in
               comes (s .left) (s .outputs) l o
@@ -116,10 +118,10 @@ module _ (S : List ℤ) (s : State) (all : Shares) (is-all : all ≡ sharesOf S 
 
       -- one runs: it has a tick less to run
       pub tick-runs : all .running .count ≡ 1 → outputs ≡ outputsAfter P results s (all .running .job .0)
-          → record { number = 0; state = next } ≡ answer s (tickAll P S results s)
+          → record { number = acceptedNumber; state = next } ≡ answer s (tickAll P S results s)
       tick-runs h o = go (running S s) refl
         where
-          go : (w : Who) → running S s ≡ w → record { number = 0; state = next } ≡ answer s (ticked P S results s w)
+          go : (w : Who) → running S s ≡ w → record { number = acceptedNumber; state = next } ≡ answer s (ticked P S results s w)
           go nobody e = absurd (omega (arith, counts nobody e))
           go (one t) e =
               let l : left ≡ after (run t) (s .left) =

@@ -10,10 +10,11 @@ use lib.IntN.{ℤ}
 use lib.ListN.{length, getD, set}
 use borrow.Author.Tests.{eqb-true}
 use Rattle.theory.specs.Lists.{member, Put, puts}
-use Rattle.theory.specs.Verdict.{orElse, within, verdict}
+use Rattle.theory.specs.Verdict.{acceptedNumber, orElse, within, verdict}
 use Rattle.theory.proofs.Lists.{map-same}
 use Rattle.theory.proofs.Members.{every-member}
 use Rattle.cells.specs.Cell.{numAt}
+use Rattle.cells.specs.Refusals.{shapeRefused, timeRefused, overrunRefused, faultyRefused}
 use Rattle.program.specs.Program.{Program, task}
 use Rattle.program.specs.Ports.{valueOf, takes}
 use Rattle.rules.specs.Fields.{inRange}
@@ -103,15 +104,15 @@ module _ (P : Program) (code : List Op) (readings others times times₂ : List �
 
       -- its refusal, where this is said of 19 and of 16
       refusal : Bool → Bool → ℕ
-      refusal f t = orElse f 19 (orElse t 16 (orElse (stillRunning (a .state) o) 17 0))
+      refusal f t = orElse f faultyRefused (orElse t timeRefused (orElse (stillRunning (a .state) o) overrunRefused acceptedNumber))
 
       -- whatever the times, a faulty instruction is refused with 19
-      faulted : isFaulty P (length code) (a .planned) o ≡ true → (ts : List ℤ) → refusalAt P readings ts code a ≡ 19
+      faulted : isFaulty P (length code) (a .planned) o ≡ true → (ts : List ℤ) → refusalAt P readings ts code a ≡ faultyRefused
       faulted e ts = ap (λ (f : Bool). refusal f (timeBad P ts o)) e
 
       -- a refusal, a `return`, or one instruction more
       going : Same o → refusalAt P readings times code a ≡ refusalAt P others times₂ code a
-          → (refusalAt P readings times code a ≡ 0 → isReturn o ≡ false → Alike count next)
+          → (refusalAt P readings times code a ≡ acceptedNumber → isReturn o ≡ false → Alike count next)
           → (r : ℕ) → refusalAt P readings times code a ≡ r → (b : Bool) → isReturn o ≡ b → Alike (suc count) a
       going e w ih (suc r) p b q =
           at-refusal P readings times code count a (suc r) (omega arith) p
@@ -125,11 +126,11 @@ module _ (P : Program) (code : List Op) (readings others times times₂ : List �
           ∙ sym (passes P others times₂ code count a (sym w ∙ p) q)
 
       go : (f : Bool) → isFaulty P (length code) (a .planned) o ≡ f
-          → (refusalAt P readings times code a ≡ 0 → isReturn o ≡ false → Alike count next)
+          → (refusalAt P readings times code a ≡ acceptedNumber → isReturn o ≡ false → Alike count next)
           → Alike (suc count) a
       go true e ih =
-          at-refusal P readings times code count a 19 (omega arith) (faulted e times)
-          ∙ sym (at-refusal P others times₂ code count a 19 (omega arith) (faulted e times₂))
+          at-refusal P readings times code count a faultyRefused (omega arith) (faulted e times)
+          ∙ sym (at-refusal P others times₂ code count a faultyRefused (omega arith) (faulted e times₂))
       go false e ih =
           let u = h 0 a (omega arith) refl (faulty-says P (length code) (a .planned) o .no e) in
           going u (ap (refusal (isFaulty P (length code) (a .planned) o)) (same-time o u)) ih (refusalAt P readings times code a) refl (isReturn o) refl
@@ -165,11 +166,11 @@ module _ (L : Advance) (X : Lent) (l : SameLengths L X) where
   same-verdict : advanceVerdict L ≡ advanceVerdict (lending L X)
   unfolding advanceVerdict
   same-verdict =
-      ap (λ (b : Bool). orElse b 1 (verdict (map (within (λ (K : Advance). K .tables)) (tableRefusals ++ (longRefusal ∷ [])) ++ runRefusals) L))
+      ap (λ (b : Bool). orElse b shapeRefused (verdict (map (within (λ (K : Advance). K .tables)) (tableRefusals ++ (longRefusal ∷ [])) ++ runRefusals) L))
       same-shape
 
   -- and the answer, where one of them applies
-  pub refused-same : 0 < advanceVerdict L → advanceAnswer L ≡ advanceAnswer (lending L X)
+  pub refused-same : acceptedNumber < advanceVerdict L → advanceAnswer L ≡ advanceAnswer (lending L X)
   refused-same h = sym (advance-refused L (advanceVerdict L) refl h) ∙ advance-refused (lending L X) (advanceVerdict L) same-verdict h
 
 module _ (L : Advance) (X : Lent) (A : Agrees L X) where

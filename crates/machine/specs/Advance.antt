@@ -8,8 +8,9 @@ use lib.Dec.{ltb, leb}
 use lib.IntN.{ℤ, pos}
 use lib.ListN.{length, getD, replicate}
 use Rattle.theory.specs.Search.{any}
-use Rattle.theory.specs.Verdict.{Refusal, verdict, Rule}
+use Rattle.theory.specs.Verdict.{acceptedNumber, Refusal, verdict, Rule}
 use Rattle.cells.specs.Limits.{suppliers, maxPorts, maxTasks, maxSchedule, maxCode, wordsEach, maxElapsed, maxRemaining, maxLeft}
+use Rattle.cells.specs.Refusals.{scheduleRefused, stateRefused}
 use Rattle.program.specs.Tables.{Tables}
 use Rattle.program.specs.Program.{Program, programOf}
 use Rattle.rules.specs.Shape.{badSlice, badLength, shapeBad, WholeRows, Shaped}
@@ -40,7 +41,7 @@ stateOf v = record {
 -- "a fresh state has the ports' first values in the first two and 0 elsewhere"; refused, it is all 0
 unfoldable pub freshAnswer : Tables → Advanced
 freshAnswer T = elim (programVerdict T) [
-  | zero ↦ record { number = 0; state = stateOf (programOf T .first) }
+  | zero ↦ record { number = acceptedNumber; state = stateOf (programOf T .first) }
   | suc n ↦ record { number = suc n; state = stateOf (replicate maxPorts (pos 0)) }
 ]
 
@@ -98,7 +99,9 @@ pub record StateFits (L : Advance) : Type 0 where
 -- the static verdict: 1 to 11, 13, 21
 abbrev pub runRefusals : List (Refusal Advance)
 runRefusals =
-    record { number = 13; applies = λ L. joinedBad (L .tables) (L .schedule) } ∷ record { number = 21; applies = stateBad } ∷ []
+    record { number = scheduleRefused; applies = λ L. joinedBad (L .tables) (L .schedule) }
+    ∷ record { number = stateRefused; applies = stateBad }
+    ∷ []
 
 abbrev pub advanceRefusals : List (Refusal Advance)
 advanceRefusals = lentRefusals (λ L. L .tables) advanceShapeBad runRefusals
@@ -107,7 +110,10 @@ unfoldable pub advanceVerdict : Advance → ℕ
 advanceVerdict L = verdict advanceRefusals L
 
 abbrev pub runRules : List (Rule Advance)
-runRules = record { number = 13; holds = λ L. Joined (L .tables) (L .schedule) } ∷ record { number = 21; holds = StateFits } ∷ []
+runRules =
+    record { number = scheduleRefused; holds = λ L. Joined (L .tables) (L .schedule) }
+    ∷ record { number = stateRefused; holds = StateFits }
+    ∷ []
 
 abbrev pub advanceRules : List (Rule Advance)
 advanceRules = lentRules (λ L. L .tables) AdvanceShaped runRules
@@ -120,7 +126,7 @@ abbrev pub step : Program → List Op → List ℤ → Lent → State → Outcom
 step P code S X s = elim (ready P code (X .readings) (X .times) s) [ ok u ↦ tickAll P S (X .results) u | stop n ↦ stop n ]
 
 abbrev pub answer : State → Outcome → Advanced
-answer s (ok u) = record { number = 0; state = u }
+answer s (ok u) = record { number = acceptedNumber; state = u }
 answer s (stop n) = record { number = n; state = s }
 
 unfoldable pub advanceAnswer : Advance → Advanced

@@ -7,6 +7,7 @@ use mathlib.Core.Bool.{false}
 use mathlib.Core.List.{List}
 use mathlib.Core.Logic.{_⊎_}
 use lib.ListN.{length, getD}
+use Rattle.cells.specs.Refusals.{shapeRefused, timeRefused, countRefused, stateRefused}
 use Rattle.program.specs.Program.{Program, programOf}
 use Rattle.code.specs.Op.{Op, return, faulty, instructions}
 use Rattle.suppliers.specs.Schedule.{lastStatic}
@@ -18,10 +19,10 @@ use Rattle.machine.specs.Advance.{Advance}
 
 -- the numbers that are given before anything runs, and those that arise in execution
 abbrev pub Static : ℕ → Type 0
-Static n = ((1 ≤ n) × (n ≤ lastStatic)) ⊎ (n ≡ 21)
+Static n = ((shapeRefused ≤ n) × (n ≤ lastStatic)) ⊎ (n ≡ stateRefused)
 
 abbrev pub Arising : ℕ → Type 0
-Arising n = (16 ≤ n) × (n ≤ 20)
+Arising n = (timeRefused ≤ n) × (n ≤ countRefused)
 
 module _ (L : Advance) where
   -- the program and the code that it is lent

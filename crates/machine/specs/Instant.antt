@@ -8,7 +8,8 @@ use mathlib.Core.Logic.{_⊎_}
 use lib.Dec.{ltb}
 use lib.IntN.{ℤ}
 use lib.ListN.{length, getD}
-use Rattle.theory.specs.Verdict.{verdict}
+use Rattle.theory.specs.Verdict.{acceptedNumber, verdict}
+use Rattle.cells.specs.Refusals.{faultyRefused, countRefused}
 use Rattle.program.specs.Program.{Program}
 use Rattle.code.specs.Op.{Op, call, schedule, branch, jump, future, return, faulty}
 use Rattle.machine.specs.declared.State.{State}
@@ -31,7 +32,7 @@ isReturn faulty = false
 
 -- all of n instructions were run: the next address says whether one more is
 abbrev pub ended : ℕ → ℕ → Outcome
-ended n address = elim (ltb address n) [ true ↦ stop 20 | false ↦ stop 19 ]
+ended n address = elim (ltb address n) [ true ↦ stop countRefused | false ↦ stop faultyRefused ]
 
 module _ (P : Program) (readings times : List ℤ) (code : List Op) where
   -- the instruction at an address; past the end stands none
@@ -59,7 +60,7 @@ module _ (P : Program) (readings times : List ℤ) (code : List Op) where
   -- The same over the tests (in document 01's words: Comes.antt): n instructions, none refused and none a `return`, lead from a to b
   abbrev pub Goes : ℕ → At → At → Type 0
   Goes zero a b = a ≡ b
-  Goes (suc n) a b = (refusalAt a ≡ 0) × (isReturn (fetch a) ≡ false) × Goes n (executes P readings times (fetch a) a) b
+  Goes (suc n) a b = (refusalAt a ≡ acceptedNumber) × (isReturn (fetch a) ≡ false) × Goes n (executes P readings times (fetch a) a) b
 
   -- from a, in at most `count` instructions: the last one is a `return` that is not refused, and leaves s
   pub record Ends (count : ℕ) (a : At) (s : State) : Type 0 where
@@ -67,7 +68,7 @@ module _ (P : Program) (readings times : List ℤ) (code : List Op) where
     pub last : At
     pub in-count : before < count
     pub goes : Goes before a last
-    pub not-refused : refusalAt last ≡ 0
+    pub not-refused : refusalAt last ≡ acceptedNumber
     pub returns : isReturn (fetch last) ≡ true
     pub leaves : last .state ≡ s
 
@@ -77,11 +78,11 @@ module _ (P : Program) (readings times : List ℤ) (code : List Op) where
     pub last : At
     pub in-count : before < count
     pub goes : Goes before a last
-    pub some-number : 1 ≤ number
+    pub some-number : acceptedNumber < number
     pub refused : refusalAt last ≡ number
 
   -- all were run: one more inside the code is 20, running off the end 19
   pub record Spent (count : ℕ) (a : At) (number : ℕ) : Type 0 where
     pub last : At
     pub goes : Goes count a last
-    pub spent : ((last .address < length code) × (number ≡ 20)) ⊎ ((length code ≤ last .address) × (number ≡ 19))
+    pub spent : ((last .address < length code) × (number ≡ countRefused)) ⊎ ((length code ≤ last .address) × (number ≡ faultyRefused))

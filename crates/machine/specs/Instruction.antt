@@ -12,6 +12,7 @@ use Rattle.theory.specs.Lists.{member, puts}
 use Rattle.theory.specs.Verdict.{Refusal}
 use Rattle.cells.specs.Cell.{numAt}
 use Rattle.cells.specs.Limits.{suppliers, maxDelay, firstOutputCall, firstSensorCall}
+use Rattle.cells.specs.Refusals.{timeRefused, overrunRefused, faultyRefused}
 use Rattle.program.specs.Guard.{holds}
 use Rattle.program.specs.Program.{Program, task, driver}
 use Rattle.program.specs.Ports.{valueOf, takes, drive}
@@ -120,9 +121,9 @@ module _ (P : Program) (readings times : List ℤ) where
   -- "at one instruction the order is 20, 19, 16, 17": the last three (20 counts instructions, in Instant.antt)
   abbrev pub instructionRefusals : ℕ → Op → List (Refusal At)
   instructionRefusals n o =
-      record { number = 19; applies = λ a. isFaulty P n (a .planned) o }
-      ∷ record { number = 16; applies = λ a. timeBad P times o }
-      ∷ record { number = 17; applies = λ a. stillRunning (a .state) o }
+      record { number = faultyRefused; applies = λ a. isFaulty P n (a .planned) o }
+      ∷ record { number = timeRefused; applies = λ a. timeBad P times o }
+      ∷ record { number = overrunRefused; applies = λ a. stillRunning (a .state) o }
       ∷ []
 
   -- what a call does: a driver copies only when its guard holds; an output copy takes the task's local outputs; a sensor is read

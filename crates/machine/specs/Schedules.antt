@@ -9,6 +9,7 @@ use lib.IntN.{ℤ}
 use lib.ListN.{getD}
 use Rattle.theory.specs.Lists.{each, puts}
 use Rattle.cells.specs.Limits.{suppliers}
+use Rattle.cells.specs.Refusals.{collisionRefused}
 use Rattle.program.specs.Program.{Program, task}
 use Rattle.program.specs.Ports.{valueOf, takes}
 use Rattle.runs.specs.Tick.{leftOf, Act, rest, run, after, Place, moved, doing, runsIn}
@@ -103,7 +104,7 @@ afterTick S s left outputs = tickPassed s left outputs (each (movedOf S s) suppl
 abbrev pub ticked : Program → List ℤ → List ℤ → State → Who → Outcome
 ticked P S results s nobody = ok (afterTick S s (s .left) (s .outputs))
 ticked P S results s (one t) = ok (afterTick S s (after (run t) (s .left)) (outputsAfter P results s t))
-ticked P S results s several = stop 18
+ticked P S results s several = stop collisionRefused
 
 abbrev pub tickAll : Program → List ℤ → List ℤ → State → Outcome
 tickAll P S results s = ticked P S results s (running S s)

@@ -15,6 +15,7 @@ use crate::State;
 use crate::values;
 use cells::kinds::Task;
 use cells::limits::Program;
+use cells::refusals;
 use runs::block;
 use runs::turn;
 use runs::turn::Turn;
@@ -130,7 +131,7 @@ pub fn tick_all(
     let running = all.running;
     if 1 < running.count {
         return Advanced {
-            number: 18,
+            number: refusals::COLLISION,
             state: s,
         };
     }
@@ -150,7 +151,7 @@ pub fn tick_all(
     let left = turn::after(turn, before);
     let positions = all.positions;
     Advanced {
-        number: 0,
+        number: refusals::ACCEPTED,
         state: tick_passed(s, left, outputs, positions),
     }
 }

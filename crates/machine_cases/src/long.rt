@@ -10,6 +10,7 @@ use cases::room;
 use cases::stream::Reader;
 use cases::tables::Lengths;
 use cells::parts::part;
+use cells::refusals;
 use machine::Advanced;
 use machine::State;
 
@@ -27,12 +28,12 @@ fn ticks(
     times: &[i32],
 ) -> Advanced {
     let mut at = Advanced {
-        number: 0,
+        number: refusals::ACCEPTED,
         state: s,
     };
     let mut i = 0;
     while i < n {
-        if 0 < at.number {
+        if refusals::ACCEPTED < at.number {
             return at;
         }
         let state = at.state;

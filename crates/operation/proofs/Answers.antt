@@ -7,6 +7,7 @@ use mathlib.Core.Logic.{_⊎_, inl, inr}
 use native.Mathlib.Omega.{arith}
 use lib.IntN.{ℤ}
 use lib.ListN.{length}
+use Rattle.theory.specs.Verdict.{acceptedNumber}
 use Rattle.cells.specs.Limits.{maxElapsed}
 use Rattle.program.specs.Program.{Program}
 use Rattle.code.specs.Op.{Op}
@@ -22,7 +23,7 @@ use Rattle.machine.proofs.Kept.{instant-keeps}
 
 module _ (P : Program) (code : List Op) (readings times : List ℤ) (s : State) where
   -- the answer 0 tells the state before the tick
-  pub ready-told : (b : Advanced) → b ≡ answer s (ready P code readings times s) → b .number ≡ 0 → ready P code readings times s ≡ ok (b .state)
+  pub ready-told : (b : Advanced) → b ≡ answer s (ready P code readings times s) → b .number ≡ acceptedNumber → ready P code readings times s ≡ ok (b .state)
   ready-told b e z = go (ready P code readings times s) refl e
     where
       go : (o : Outcome) → ready P code readings times s ≡ o → b ≡ answer s o → ready P code readings times s ≡ ok (b .state)
@@ -41,7 +42,7 @@ module _ (P : Program) (code : List Op) (readings times : List ℤ) (s : State) 
 
 module _ (P : Program) (code : List Op) (S : List ℤ) (X : Lent) (s : State) where
   -- the E part is refused: so is the step
-  pub step-stops : (b : Advanced) → b ≡ answer s (ready P code (X .readings) (X .times) s) → 0 < b .number
+  pub step-stops : (b : Advanced) → b ≡ answer s (ready P code (X .readings) (X .times) s) → acceptedNumber < b .number
       → record { number = b .number; state = s } ≡ answer s (step P code S X s)
   step-stops b e l = go (ready P code (X .readings) (X .times) s) e
     where
@@ -51,7 +52,7 @@ module _ (P : Program) (code : List Op) (S : List ℤ) (X : Lent) (s : State) wh
 
   module _ (u : State) (e : ready P code (X .readings) (X .times) s ≡ ok u) (a : Advanced) (f : a ≡ answer u (tickAll P S (X .results) u)) where
     -- the tick is refused: so is the step
-    pub tick-stops : 0 < a .number → record { number = a .number; state = s } ≡ answer s (step P code S X s)
+    pub tick-stops : acceptedNumber < a .number → record { number = a .number; state = s } ≡ answer s (step P code S X s)
     tick-stops l = go (tickAll P S (X .results) u) f ∙ ap (λ (o : Outcome). answer s (goes P code S X s o)) (sym e)
       where
         go : (o : Outcome) → a ≡ answer u o → record { number = a .number; state = s } ≡ answer s o
@@ -59,7 +60,7 @@ module _ (P : Program) (code : List Op) (S : List ℤ) (X : Lent) (s : State) wh
         go (stop n) g = ap (λ (a : Advanced). record { number = a .number; state = s }) g
 
     -- it is not: its state is the step's
-    pub tick-passes : a .number ≡ 0 → a ≡ answer s (step P code S X s)
+    pub tick-passes : a .number ≡ acceptedNumber → a ≡ answer s (step P code S X s)
     tick-passes z = go (tickAll P S (X .results) u) refl f ∙ ap (λ (o : Outcome). answer s (goes P code S X s o)) (sym e)
       where
         go : (o : Outcome) → tickAll P S (X .results) u ≡ o → a ≡ answer u o → a ≡ answer s o

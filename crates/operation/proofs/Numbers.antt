@@ -6,11 +6,12 @@ use mathlib.Core.Bool.{true, false}
 use mathlib.Core.List.{List, [], _∷_, _++_, map}
 use native.Mathlib.Omega.{arith}
 use lib.ListN.{length}
-use Rattle.theory.specs.Verdict.{Refusal, orElse, within, after}
+use Rattle.theory.specs.Verdict.{acceptedNumber, Refusal, orElse, within, after}
 use Rattle.theory.proofs.Bools.{bars-iff}
 use Rattle.theory.proofs.Conditions.{or-else-yes, or-else-no}
 use Rattle.theory.proofs.Verdict.{after-given, verdict-clear, verdict-both}
 use Rattle.cells.specs.Limits.{maxDrivers, maxCode, wordsEach}
+use Rattle.cells.specs.Refusals.{shapeRefused, scheduleRefused, stateRefused}
 use Rattle.program.specs.Tables.{driverWidth}
 use Rattle.rules.specs.Shape.{shapeBad}
 use Rattle.rules.specs.Verdict.{tableRefusals}
@@ -27,14 +28,14 @@ use Rattle.instants.specs.Step.{Named}
 -- 1, then 2 to 11 of the tables, then 13 and 21
 advance-number : (L : Advance)
     → advanceVerdict L
-    ≡ orElse (advanceShapeBad L) 1 (after (lentVerdict (L .tables)) (orElse (joinedBad (L .tables) (L .schedule)) 13 (orElse (stateBad L) 21 0)))
+    ≡ orElse (advanceShapeBad L) shapeRefused (after (lentVerdict (L .tables)) (orElse (joinedBad (L .tables) (L .schedule)) scheduleRefused (orElse (stateBad L) stateRefused acceptedNumber)))
 unfolding advanceVerdict
-advance-number L = ap (orElse (advanceShapeBad L) 1) (lent-first (λ (L : Advance). L .tables) runRefusals L)
+advance-number L = ap (orElse (advanceShapeBad L) shapeRefused) (lent-first (λ (L : Advance). L .tables) runRefusals L)
 
 module _ (L : Advance) where
   -- something that is lent does not have its shape
-  pub advance-one : advanceShapeBad L ≡ true → advanceVerdict L ≡ 1
-  advance-one e = advance-number L ∙ or-else-yes 1 _ e
+  pub advance-one : advanceShapeBad L ≡ true → advanceVerdict L ≡ shapeRefused
+  advance-one e = advance-number L ∙ or-else-yes shapeRefused _ e
 
   -- everything has its shape: so have the tables
   pub advance-shaped : advanceShapeBad L ≡ false → shapeBad (L .tables) ≡ false
@@ -42,22 +43,24 @@ module _ (L : Advance) where
 
   module _ (s : advanceShapeBad L ≡ false) where
     -- a number that every call asks for
-    pub advance-given : (n : ℕ) → n ≡ lentVerdict (L .tables) → 0 < n → advanceVerdict L ≡ n
+    pub advance-given : (n : ℕ) → n ≡ lentVerdict (L .tables) → acceptedNumber < n → advanceVerdict L ≡ n
     advance-given n e l =
-        let own = orElse (joinedBad (L .tables) (L .schedule)) 13 (orElse (stateBad L) 21 0) in
-        advance-number L ∙ or-else-no 1 _ s ∙ ap (λ (k : ℕ). after k own) (sym e) ∙ after-given n own l
+        let own = orElse (joinedBad (L .tables) (L .schedule)) scheduleRefused (orElse (stateBad L) stateRefused acceptedNumber) in
+        advance-number L ∙ or-else-no shapeRefused _ s ∙ ap (λ (k : ℕ). after k own) (sym e) ∙ after-given n own l
 
     -- none of them: 13 and 21 decide
-    pub advance-own : lentVerdict (L .tables) ≡ 0
-        → advanceVerdict L ≡ orElse (joinedBad (L .tables) (L .schedule)) 13 (orElse (stateBad L) 21 0)
+    pub advance-own : lentVerdict (L .tables) ≡ acceptedNumber
+        → advanceVerdict L ≡ orElse (joinedBad (L .tables) (L .schedule)) scheduleRefused (orElse (stateBad L) stateRefused acceptedNumber)
     advance-own e =
-        advance-number L ∙ or-else-no 1 _ s ∙ ap (λ (k : ℕ). after k (orElse (joinedBad (L .tables) (L .schedule)) 13 (orElse (stateBad L) 21 0))) e
+        advance-number L ∙ or-else-no shapeRefused _ s ∙ ap (λ (k : ℕ). after k (orElse (joinedBad (L .tables) (L .schedule)) scheduleRefused (orElse (stateBad L) stateRefused acceptedNumber))) e
 
 -- what an advance asks before 13
 abbrev before : List (Refusal Advance)
-before = record { number = 1; applies = advanceShapeBad } ∷ map (within (λ (L : Advance). L .tables)) (tableRefusals ++ (longRefusal ∷ []))
+before =
+    record { number = shapeRefused; applies = advanceShapeBad }
+    ∷ map (within (λ (L : Advance). L .tables)) (tableRefusals ++ (longRefusal ∷ []))
 
-module _ (L : Advance) (e : advanceVerdict L ≡ 0) where
+module _ (L : Advance) (e : advanceVerdict L ≡ acceptedNumber) where
   -- everything has its shape
   pub runs-shaped : AdvanceShaped L
   unfolding advanceVerdict

@@ -9,6 +9,7 @@ ghost use Rattle.machine.specs.Advance.{advanceShapeBad, advanceVerdict};
 ghost use Rattle.operation.specs.Lent.{lent, advancing};
 use cells::columns::schedule;
 use cells::limits::Program;
+use cells::refusals;
 use fields::slices;
 use machine::State;
 use machine::range;
@@ -106,7 +107,7 @@ pub fn number(
         results,
         times,
     ) {
-        return 1;
+        return refusals::SHAPE;
     }
     let number = lent::lent_verdict(
         ports,
@@ -121,7 +122,7 @@ pub fn number(
         switches,
         start,
     );
-    if 0 < number {
+    if refusals::ACCEPTED < number {
         return number;
     }
     if joined::refused(
@@ -133,12 +134,12 @@ pub fn number(
         switches,
         schedule,
     ) {
-        return 13;
+        return refusals::SCHEDULE;
     }
     let instructions = code.len() / Program::WORDS;
     let rows = schedule.len() / schedule::WIDTH;
     if range::out_of_range(instructions, rows, s) {
-        return 21;
+        return refusals::STATE;
     }
-    0
+    refusals::ACCEPTED
 }

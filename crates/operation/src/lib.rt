@@ -11,6 +11,7 @@ ghost use Rattle.machine.specs.Advance.{stateOf, ready, step, answer, freshAnsw
 ghost use Rattle.instants.specs.Step.{Named};
 ghost use Rattle.operation.specs.Lent.{lent, advancing};
 use cells::limits::Program;
+use cells::refusals;
 use machine::Advanced;
 use machine::State;
 use machine::schedules;
@@ -66,14 +67,17 @@ pub fn fresh(
         switches,
         start,
     );
-    if 0 < number {
+    if refusals::ACCEPTED < number {
         let nothing = [0; Program::PORTS];
         let state = begun(nothing);
         return Advanced { number, state };
     }
     let first = values::first_values(ports);
     let state = begun(first);
-    Advanced { number: 0, state }
+    Advanced {
+        number: refusals::ACCEPTED,
+        state,
+    }
 }
 
 // The E code runs if no tick of the unit remains.
@@ -95,7 +99,7 @@ fn ready(
 {
     if 0 < s.remaining {
         return Advanced {
-            number: 0,
+            number: refusals::ACCEPTED,
             state: s,
         };
     }
@@ -146,7 +150,7 @@ fn step(
         times,
         s,
     );
-    if 0 < begun.number {
+    if refusals::ACCEPTED < begun.number {
         return Advanced {
             number: begun.number,
             state: s,
@@ -154,7 +158,7 @@ fn step(
     }
     let before = begun.state;
     let after = schedules::tick_all(ports, task_ports, schedule, results, before);
-    if 0 < after.number {
+    if refusals::ACCEPTED < after.number {
         return Advanced {
             number: after.number,
             state: s,
@@ -207,7 +211,7 @@ pub fn advance(
         results,
         times,
     );
-    if 0 < number {
+    if refusals::ACCEPTED < number {
         return Advanced { number, state: s };
     }
     step(

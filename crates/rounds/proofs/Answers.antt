@@ -4,6 +4,7 @@ use Prim.Native.Nat.{ℕ, suc, _+_, _-_, _≤_, _<_}
 use mathlib.Core.Path.{_≡_, sym, ap, _∙_}
 use native.Mathlib.Numerals.{add-one}
 use native.Mathlib.Omega.{arith}
+use Rattle.theory.specs.Verdict.{acceptedNumber}
 use Rattle.runs.specs.Round.{Break, none, outside, late}
 use Rattle.suppliers.specs.declared.Answer.{Answer}
 use Rattle.suppliers.specs.Supplier.{breakNumber, breakTick, answerOf, answerFrom}
@@ -31,7 +32,7 @@ module _ (breaks : ℕ → Break) (n : ℕ) where
 
   module _ (m : ℕ) {number : ℕ} (l : m < n) (q : number ≡ breakNumber (breaks m)) (h : Answering m) where
     -- one mode more that does not break
-    pub answering-more : number ≤ 0 → Answering (m + 1)
+    pub answering-more : number ≤ acceptedNumber → Answering (m + 1)
     answering-more z = record { same = sym (go (breaks m) q) ∙ sym (rest m l) ∙ h .same }
       where
         go : (b : Break) → number ≡ breakNumber b → this (n - (m + 1)) m b ≡ answerFrom breaks (n - (m + 1)) (m + 1)
@@ -40,7 +41,7 @@ module _ (breaks : ℕ → Break) (n : ℕ) where
         go (late t) e = absurd (omega arith)
 
     -- a mode that does
-    pub answering-found : {tick : ℕ} → tick ≡ breakTick (breaks m) → 0 < number
+    pub answering-found : {tick : ℕ} → tick ≡ breakTick (breaks m) → acceptedNumber < number
         → _≡_ {A = Answer} (record { number = number; mode = m; tick = tick }) (answerFrom breaks n 0)
     answering-found {tick} r z = go (breaks m) q r ∙ sym (rest m l) ∙ h .same
       where
@@ -51,5 +52,6 @@ module _ (breaks : ℕ → Break) (n : ℕ) where
         go (late t) e f = λ j. record { number = e j; mode = m; tick = f j }
 
   -- the loop ends
-  pub answering-all : (m : ℕ) → n ≤ m → Answering m → _≡_ {A = Answer} (record { number = 0; mode = 0; tick = 0 }) (answerFrom breaks n 0)
+  pub answering-all : (m : ℕ) → n ≤ m → Answering m
+      → _≡_ {A = Answer} (record { number = acceptedNumber; mode = 0; tick = 0 }) (answerFrom breaks n 0)
   answering-all m l h = let z : n - m ≡ 0 = omega arith in sym (ap (λ (k : ℕ). answerFrom breaks k m) z) ∙ h .same

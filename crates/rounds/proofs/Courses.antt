@@ -9,6 +9,7 @@ use lib.Dec.{eqb}
 use lib.IntN.{ℤ}
 use lib.ListN.{length}
 use Rattle.theory.specs.Lists.{keep, member}
+use Rattle.theory.specs.Verdict.{acceptedNumber}
 use Rattle.theory.proofs.Lists.{sum-same, keep-those, those-same}
 use Rattle.program.specs.Tables.{Tables, taskCount, taskSupplier, modeCount, invocationWidth, invocationCount, invTask}
 use Rattle.program.specs.Units.{units, rowDue}
@@ -28,7 +29,7 @@ use Rattle.suppliers.specs.Supplier.{Asked, supplierOf, ownTasks, course, answe
 use Rattle.suppliers.proofs.Accepted.{own-declared, part-accepted}
 use Rattle.rounds.specs.Course.{ownDue, ownRows, blockAt, courseOn}
 
-module _ (T : Tables) (a : programVerdict T ≡ 0) where
+module _ (T : Tables) (a : programVerdict T ≡ acceptedNumber) where
   -- the program that the tables say
   abbrev P : Program
   P = programOf T
@@ -102,7 +103,7 @@ answer-same b c (suc n) m h =
     ]
 
 -- the answer over all modes as they were counted is that of the definitions
-pub judged-counted : (L : Asked) → partVerdict L ≡ 0 → (sensors : ℕ) → sensors ≡ length (programOf (L .tables) .sensors)
+pub judged-counted : (L : Asked) → partVerdict L ≡ acceptedNumber → (sensors : ℕ) → sensors ≡ length (programOf (L .tables) .sensors)
     → answerFrom (λ m. worstBreak (courseOn (L .tables) (L .windows) (L .part) (supplierOf L) sensors m (startIn (L .tables) sensors m)) nothing) (modeCount (L .tables)) 0
     ≡ judged L
 judged-counted L a sensors e =

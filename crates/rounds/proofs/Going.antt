@@ -9,6 +9,7 @@ use native.Mathlib.Numerals.{add-one}
 use native.Mathlib.Omega.{arith}
 use lib.IntN.{ℤ}
 use Rattle.theory.specs.Lists.{sum}
+use Rattle.theory.specs.Verdict.{acceptedNumber}
 use Rattle.cells.specs.Limits.{maxPorts, maxUnits}
 use Rattle.layout.specs.declared.counts.Counts.{Counts}
 use Rattle.layout.specs.Few.{Few}
@@ -45,7 +46,7 @@ come-walk S s counts first from h (suc k) =
     (come-more S s (blockAt counts first k) (rowBefore S s counts first from k) (counts k) (come-walk S s counts first from h k))
 
 -- what the code makes of a break is the round with it
-pub rounded-breaks : (b : Break) (at row : ℕ) {n t : ℕ} → 0 < n → n ≡ breakNumber b → t ≡ breakTick b
+pub rounded-breaks : (b : Break) (at row : ℕ) {n t : ℕ} → acceptedNumber < n → n ≡ breakNumber b → t ≡ breakTick b
     → _≡_ {A = Rounded} (record { number = n; tick = t; at = 0; row = 0 }) (rounded b at row)
 unfolding rounded
 rounded-breaks none at row l e f = absurd (omega arith)
@@ -53,10 +54,10 @@ rounded-breaks (outside t) at row l e f = λ j. record { number = e j; tick = f 
 rounded-breaks (late t) at row l e f = λ j. record { number = e j; tick = f j; at = 0; row = 0 }
 
 -- and of none
-pub rounded-whole : (b : Break) {at row at′ row′ : ℕ} → 0 ≡ breakNumber b → at ≡ at′ → row ≡ row′
-    → _≡_ {A = Rounded} (record { number = 0; tick = 0; at = at; row = row }) (rounded b at′ row′)
+pub rounded-whole : (b : Break) {at row at′ row′ : ℕ} → acceptedNumber ≡ breakNumber b → at ≡ at′ → row ≡ row′
+    → _≡_ {A = Rounded} (record { number = acceptedNumber; tick = 0; at = at; row = row }) (rounded b at′ row′)
 unfolding rounded
-rounded-whole none e f g = λ j. record { number = 0; tick = 0; at = f j; row = g j }
+rounded-whole none e f g = λ j. record { number = acceptedNumber; tick = 0; at = f j; row = g j }
 rounded-whole (outside t) e f g = absurd (omega arith)
 rounded-whole (late t) e f g = absurd (omega arith)
 
@@ -64,7 +65,7 @@ rounded-whole (late t) e f g = absurd (omega arith)
 pub record Told (r : Rounded) (b : Break) (at row : ℕ) : Type 0 where
   pub number : r .number ≡ breakNumber b
   pub tick : r .tick ≡ breakTick b
-  pub came : r .number ≡ 0 → (r .at ≡ at) × (r .row ≡ row)
+  pub came : r .number ≡ acceptedNumber → (r .at ≡ at) × (r .row ≡ row)
 
 pub rounded-says : {r : Rounded} {b : Break} {at row : ℕ} → r ≡ rounded b at row → Told r b at row
 unfolding rounded
@@ -147,9 +148,9 @@ module _ (tasks invocations updates switches W S : List ℤ) (sensors s m u tick
           sym (ap (λ (n : ℕ). judge run (worstCase run) n k left) z) ∙ h .judged
 
       -- it does not break
-      pub going-more : {size : ℕ} → size ≡ sizeOf c → unit .number ≤ 0 → Going (k + 1) (at + size) (span .end) (unit .left)
+      pub going-more : {size : ℕ} → size ≡ sizeOf c → unit .number ≤ acceptedNumber → Going (k + 1) (at + size) (span .end) (unit .left)
       going-more {size} g n =
-          let z : unitEnd run k left .number ≡ 0 = omega (arith, ap (λ (x : Ended). x .number) unit-is) in
+          let z : unitEnd run k left .number ≡ acceptedNumber = omega (arith, ap (λ (x : Ended). x .number) unit-is) in
           record {
             in-range = omega arith;
             judged =
@@ -170,7 +171,7 @@ module _ (tasks invocations updates switches W S : List ℤ) (sensors s m u tick
           }
 
       -- it does
-      pub going-breaks : 0 < unit .number
+      pub going-breaks : acceptedNumber < unit .number
           → record { number = unit .number; tick = unit .tick; at = 0; row = 0 }
           ≡ rounded (worstBreak run nothing) (blockAt counts first u) (rowBefore S s counts first from u)
       going-breaks n =
@@ -180,7 +181,7 @@ module _ (tasks invocations updates switches W S : List ℤ) (sensors s m u tick
 
     -- the loop ends: no unit broke
     pub going-all : u ≤ k
-        → record { number = 0; tick = 0; at = at; row = row } ≡ rounded (worstBreak run nothing) (blockAt counts first u) (rowBefore S s counts first from u)
+        → record { number = acceptedNumber; tick = 0; at = at; row = row } ≡ rounded (worstBreak run nothing) (blockAt counts first u) (rowBefore S s counts first from u)
     going-all l =
         let z : 0 ≡ u - k = omega arith in
         let y : k ≡ u = omega (arith, h .in-range) in

@@ -8,6 +8,7 @@ use mathlib.Core.List.{List}
 use native.Mathlib.Nat.{mul-le-mul}
 use native.Mathlib.Omega.{arith}
 use lib.IntN.{ℤ}
+use Rattle.theory.specs.Verdict.{acceptedNumber}
 use Rattle.theory.proofs.Bools.{clash}
 use Rattle.cells.specs.Limits.{maxPeriod, maxUnits}
 use Rattle.runs.specs.Tick.{Row}
@@ -80,32 +81,33 @@ module _ (C : Course) (k : ℕ) (left : List ℕ) where
     all w = elim w [ left-at t ↦ outside t | ended r ↦ resolved r (unfinished (C .ending k) r) ]
 
     -- a unit that does not break: the rest of the run is judged from what remains after it
-    pub unit-passed : unitEnd C k left .number ≡ 0
+    pub unit-passed : unitEnd C k left .number ≡ acceptedNumber
         → judge C (worstCase C) (suc u) k left ≡ judge C (worstCase C) u (suc k) (unitEnd C k left .left)
     unfolding unitEnd
     unit-passed = go (watched (C .window) (C .block k) (C .ticks) 0 (k * C .ticks) (begin C (worstCase C) k left))
       where
-        ends : (r : List ℕ) (b : Bool) → terminated r b .number ≡ 0 → resolved r b ≡ judge C (worstCase C) u (suc k) (terminated r b .left)
+        ends : (r : List ℕ) (b : Bool) → terminated r b .number ≡ acceptedNumber
+            → resolved r b ≡ judge C (worstCase C) u (suc k) (terminated r b .left)
         ends r true e = absurd (omega arith)
         ends r false e = refl
 
-        go : (w : Ticked) → one w .number ≡ 0 → all w ≡ judge C (worstCase C) u (suc k) (one w .left)
+        go : (w : Ticked) → one w .number ≡ acceptedNumber → all w ≡ judge C (worstCase C) u (suc k) (one w .left)
         go (left-at t) e = absurd (omega arith)
         go (ended r) e = ends r (unfinished (C .ending k) r) e
 
     -- a unit that breaks: so does the run, with its number and its tick
-    pub unit-breaks : 0 < unitEnd C k left .number
+    pub unit-breaks : acceptedNumber < unitEnd C k left .number
         → (unitEnd C k left .number ≡ breakNumber (judge C (worstCase C) (suc u) k left))
         × (unitEnd C k left .tick ≡ breakTick (judge C (worstCase C) (suc u) k left))
     unfolding unitEnd
     unit-breaks = go (watched (C .window) (C .block k) (C .ticks) 0 (k * C .ticks) (begin C (worstCase C) k left))
       where
-        ends : (r : List ℕ) (b : Bool) → 0 < terminated r b .number
+        ends : (r : List ℕ) (b : Bool) → acceptedNumber < terminated r b .number
             → (terminated r b .number ≡ breakNumber (resolved r b)) × (terminated r b .tick ≡ breakTick (resolved r b))
         ends r true l = (refl, refl)
         ends r false l = absurd (omega arith)
 
-        go : (w : Ticked) → 0 < one w .number → (one w .number ≡ breakNumber (all w)) × (one w .tick ≡ breakTick (all w))
+        go : (w : Ticked) → acceptedNumber < one w .number → (one w .number ≡ breakNumber (all w)) × (one w .tick ≡ breakTick (all w))
         go (left-at t) l = (refl, refl)
         go (ended r) l = ends r (unfinished (C .ending k) r) l
 

@@ -17,6 +17,7 @@ use crate::round;
 use crate::round::Rounded;
 use cells::columns::mode;
 use cells::kinds::Mode;
+use cells::refusals;
 use cells::table;
 use program::multiples;
 use suppliers::Answer;
@@ -110,7 +111,7 @@ pub fn answer(
             at,
             row,
         );
-        if 0 < run.number {
+        if refusals::ACCEPTED < run.number {
             return Answer {
                 number: run.number,
                 mode: m,
@@ -122,7 +123,7 @@ pub fn answer(
         m += 1;
     }
     Answer {
-        number: 0,
+        number: refusals::ACCEPTED,
         mode: 0,
         tick: 0,
     }

@@ -11,6 +11,7 @@ ghost use Rattle.rounds.specs.Breaks.{rounded};
 use crate::units;
 use cells::kinds::Mode;
 use cells::limits::Program;
+use cells::refusals;
 use layout::counts;
 use runs::block;
 
@@ -71,7 +72,7 @@ pub fn one_round(
             k,
             left,
         );
-        if 0 < unit.number {
+        if refusals::ACCEPTED < unit.number {
             return Rounded {
                 number: unit.number,
                 tick: unit.tick,
@@ -86,7 +87,7 @@ pub fn one_round(
         k += 1;
     }
     Rounded {
-        number: 0,
+        number: refusals::ACCEPTED,
         tick: 0,
         at: at,
         row: row,

@@ -8,6 +8,7 @@ ghost use Rattle.rounds.specs.Breaks.{unitEnd};
 use crate::own;
 use cells::kinds::Mode;
 use cells::limits::Program;
+use cells::refusals;
 use runs::unit;
 
 // 14 or 15 with the tick of the round; or 0, and the remaining times after the unit.
@@ -40,7 +41,7 @@ pub fn one_unit(
     let end = unit::watch(block, windows, supplier, m, ticks, k * ticks, begun);
     if end.outside {
         return Ended {
-            number: 14,
+            number: refusals::OUTSIDE,
             tick: end.tick,
             left: [0; Program::TASKS],
         };
@@ -49,13 +50,13 @@ pub fn one_unit(
     let next = own::next_of(u, k);
     if own::unended(tasks, invocations, supplier, m, u, next, &rest) {
         return Ended {
-            number: 15,
+            number: refusals::LATE,
             tick: (k + 1) * ticks,
             left: [0; Program::TASKS],
         };
     }
     Ended {
-        number: 0,
+        number: refusals::ACCEPTED,
         tick: 0,
         left: rest,
     }

@@ -7,10 +7,11 @@ use mathlib.Core.List.{List, _∷_, _++_, map}
 use native.Mathlib.Nat.{div-le-self}
 use native.Mathlib.Omega.{arith}
 use Rattle.theory.specs.Lists.{member}
-use Rattle.theory.specs.Verdict.{Refusal, within, verdict}
+use Rattle.theory.specs.Verdict.{acceptedNumber, Refusal, within, verdict}
 use Rattle.theory.proofs.Members.{member-says}
 use Rattle.theory.proofs.Verdict.{Clear, verdict-clear, clear-verdict, verdict-both}
 use Rattle.cells.specs.Limits.{maxPeriod, maxUnits}
+use Rattle.cells.specs.Refusals.{shapeRefused}
 use Rattle.program.specs.Tables.{Tables, taskCount, modeCount, modePeriod}
 use Rattle.program.specs.Units.{units, Units}
 use Rattle.program.specs.Program.{programOf, mode, ticksOf, dueTasks}
@@ -28,7 +29,7 @@ use Rattle.rules.proofs.Declared.{task-ports-bar, copies-bar, mode-port
 use Rattle.rules.proofs.Modes.{invocations-bar, updates-bar}
 use Rattle.rules.proofs.Timing.{units-bar, whole-bars, units-few, ticks-some}
 
-module _ (T : Tables) (a : programVerdict T ≡ 0) where
+module _ (T : Tables) (a : programVerdict T ≡ acceptedNumber) where
   -- no test of the verdict applies
   pub accepted-clear : Clear (shapeRefusal ∷ tableRefusals) T
   unfolding programVerdict
@@ -96,13 +97,13 @@ module _ (T : Tables) (a : programVerdict T ≡ 0) where
 -- the program is accepted
 pub lent-accepted : {A : Type 0} (tables : A → Tables) (shape : A → Bool) (more : List (Refusal A)) (x : A)
     → (shape x ≡ false → shapeBad (tables x) ≡ false)
-    → verdict ((record { number = 1; applies = shape } ∷ map (within tables) tableRefusals) ++ more) x ≡ 0
-    → programVerdict (tables x) ≡ 0
+    → verdict ((record { number = shapeRefused; applies = shape } ∷ map (within tables) tableRefusals) ++ more) x ≡ acceptedNumber
+    → programVerdict (tables x) ≡ acceptedNumber
 unfolding programVerdict
 lent-accepted {A} tables shape more x s e = clear-verdict (shapeRefusal ∷ tableRefusals) (tables x) (s (clear .0), clear .1)
   where
     own : List (Refusal A)
-    own = record { number = 1; applies = shape } ∷ map (within tables) tableRefusals
+    own = record { number = shapeRefused; applies = shape } ∷ map (within tables) tableRefusals
 
     clear : Clear own x
     clear = verdict-clear own x (omega arith) (verdict-both own more x (omega arith) e .0)

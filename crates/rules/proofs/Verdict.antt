@@ -7,7 +7,7 @@ use mathlib.Core.List.{_∷_}
 use mathlib.Core.Logic.{_↔_, ⊎-elim}
 use native.Mathlib.Omega.{arith}
 use Rattle.theory.specs.Claim.{Bars}
-use Rattle.theory.specs.Verdict.{First, Keep}
+use Rattle.theory.specs.Verdict.{acceptedNumber, First, Keep}
 use Rattle.theory.proofs.Verdict.{Barred, verdict-first, first-none}
 use Rattle.cells.specs.Reading.{Inside, noReading}
 use Rattle.cells.proofs.Readings.{missing-only-its-own}
@@ -45,13 +45,13 @@ module _ (T : Tables) where
   program-first n = verdict-first (shapeRefusal ∷ tableRefusals) programRules T program-barred n
 
   -- a program is accepted exactly where every rule holds
-  pub program-accepted : (programVerdict T ≡ 0) ↔ Keep programRules T
+  pub program-accepted : (programVerdict T ≡ acceptedNumber) ↔ Keep programRules T
   program-accepted =
       let (there, back) = first-none programRules T (omega arith) in
-      (λ e. there (program-first 0 .0 e), λ k. program-first 0 .1 (back k))
+      (λ e. there (program-first acceptedNumber .0 e), λ k. program-first acceptedNumber .1 (back k))
 
   -- in an accepted program no guard takes a missing reading for a number: an interval with it has it alone
-  pub missing-guard : programVerdict T ≡ 0 → (d : ℕ) → d < driverCount T → guardKind T d ≡ kindInterval
+  pub missing-guard : programVerdict T ≡ acceptedNumber → (d : ℕ) → d < driverCount T → guardKind T d ≡ kindInterval
       → Inside (guardLow T d) noReading (guardHigh T d) → (guardLow T d ≡ noReading) × (guardHigh T d ≡ noReading)
   missing-guard a d l k w =
       let f : Fields T = program-accepted .0 a .1 .0 in

@@ -3,6 +3,8 @@
 use Prim.Native.Nat.{ℕ}
 use mathlib.Core.List.{List, [], _∷_}
 use Rattle.theory.specs.Verdict.{Refusal, verdict, Rule}
+use Rattle.cells.specs.Refusals.{shapeRefused, fieldsRefused, taskPortsRefused, copiesRefused, modePortsRefused}
+use Rattle.cells.specs.Refusals.{invocationsRefused, updatesRefused, switchesRefused, unitsRefused, wholeRefused}
 use Rattle.program.specs.Tables.{Tables}
 use Rattle.rules.specs.Shape.{shapeBad, Shaped}
 use Rattle.rules.specs.Fields.{fieldsBad, Fields}
@@ -11,20 +13,20 @@ use Rattle.rules.specs.Modes.{invocationsBad, Invocations, updatesBad, U
 use Rattle.rules.specs.Timing.{unitsBad, UnitsFit, wholeBad, Whole}
 
 abbrev pub shapeRefusal : Refusal Tables
-shapeRefusal = record { number = 1; applies = shapeBad }
+shapeRefusal = record { number = shapeRefused; applies = shapeBad }
 
 -- 2 to 10: what every call asks of the program after its own 1
 abbrev pub tableRefusals : List (Refusal Tables)
 tableRefusals =
-    record { number = 2; applies = fieldsBad }
-    ∷ record { number = 3; applies = taskPortsBad }
-    ∷ record { number = 4; applies = copiesBad }
-    ∷ record { number = 5; applies = modePortsBad }
-    ∷ record { number = 6; applies = invocationsBad }
-    ∷ record { number = 7; applies = updatesBad }
-    ∷ record { number = 8; applies = switchesBad }
-    ∷ record { number = 9; applies = unitsBad }
-    ∷ record { number = 10; applies = wholeBad }
+    record { number = fieldsRefused; applies = fieldsBad }
+    ∷ record { number = taskPortsRefused; applies = taskPortsBad }
+    ∷ record { number = copiesRefused; applies = copiesBad }
+    ∷ record { number = modePortsRefused; applies = modePortsBad }
+    ∷ record { number = invocationsRefused; applies = invocationsBad }
+    ∷ record { number = updatesRefused; applies = updatesBad }
+    ∷ record { number = switchesRefused; applies = switchesBad }
+    ∷ record { number = unitsRefused; applies = unitsBad }
+    ∷ record { number = wholeRefused; applies = wholeBad }
     ∷ []
 
 unfoldable pub programVerdict : Tables → ℕ
@@ -33,16 +35,16 @@ programVerdict T = verdict (shapeRefusal ∷ tableRefusals) T
 -- the rules
 abbrev pub tableRules : List (Rule Tables)
 tableRules =
-    record { number = 2; holds = Fields }
-    ∷ record { number = 3; holds = TaskPorts }
-    ∷ record { number = 4; holds = Copies }
-    ∷ record { number = 5; holds = ModePorts }
-    ∷ record { number = 6; holds = Invocations }
-    ∷ record { number = 7; holds = Updates }
-    ∷ record { number = 8; holds = Switches }
-    ∷ record { number = 9; holds = UnitsFit }
-    ∷ record { number = 10; holds = Whole }
+    record { number = fieldsRefused; holds = Fields }
+    ∷ record { number = taskPortsRefused; holds = TaskPorts }
+    ∷ record { number = copiesRefused; holds = Copies }
+    ∷ record { number = modePortsRefused; holds = ModePorts }
+    ∷ record { number = invocationsRefused; holds = Invocations }
+    ∷ record { number = updatesRefused; holds = Updates }
+    ∷ record { number = switchesRefused; holds = Switches }
+    ∷ record { number = unitsRefused; holds = UnitsFit }
+    ∷ record { number = wholeRefused; holds = Whole }
     ∷ []
 
 abbrev pub programRules : List (Rule Tables)
-programRules = record { number = 1; holds = Shaped } ∷ tableRules
+programRules = record { number = shapeRefused; holds = Shaped } ∷ tableRules

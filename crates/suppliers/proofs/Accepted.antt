@@ -9,11 +9,12 @@ use native.Mathlib.Omega.{arith}
 use lib.Dec.{eqb}
 use borrow.Author.Tests.{eq-eqb}
 use Rattle.theory.specs.Lists.{member}
-use Rattle.theory.specs.Verdict.{Refusal, orElse, within}
+use Rattle.theory.specs.Verdict.{acceptedNumber, Refusal, orElse, within}
 use Rattle.theory.proofs.Bools.{neither, says-itself, _and_}
 use Rattle.theory.proofs.Verdict.{verdict-clear, verdict-skip}
 use Rattle.theory.proofs.Members.{member-keep}
 use Rattle.cells.specs.Limits.{suppliers, maxWindows, maxPart}
+use Rattle.cells.specs.Refusals.{shapeRefused, windowsRefused, scheduleRefused}
 use Rattle.program.specs.Tables.{Tables, modeCount, taskCount}
 use Rattle.program.specs.Program.{Program, Task, programOf, task, mode, dueTasks}
 use Rattle.program.proofs.Decoded.{task-row}
@@ -38,7 +39,7 @@ unfolding partShapeBad windowsShapeBad
 part-shaped L e = neither (windowsShapeBad (windowedOf L)) (badSlice scheduleWidth maxPart (L .part)) e .0
 
 -- windows are accepted only with their program
-pub windows-accepted : (L : Windowed) → windowsVerdict L ≡ 0 → programVerdict (L .tables) ≡ 0
+pub windows-accepted : (L : Windowed) → windowsVerdict L ≡ acceptedNumber → programVerdict (L .tables) ≡ acceptedNumber
 unfolding windowsVerdict
 windows-accepted L e =
     lent-accepted (λ (L : Windowed). L .tables) windowsShapeBad (within (λ L. L .tables) longRefusal ∷ windowRefusals) L (windows-shaped L) e
@@ -47,16 +48,19 @@ windows-accepted L e =
 abbrev between : List (Refusal Asked)
 between =
     map (within (λ (L : Asked). L .tables)) (tableRefusals ++ (longRefusal ∷ []))
-    ++ (record { number = 12; applies = λ L. windowsBad (windowedOf L) } ∷ [])
+    ++ (record { number = windowsRefused; applies = λ L. windowsBad (windowedOf L) } ∷ [])
 
 -- where the windows verdict is 0, the verdict on a part asks only for the part's shape and number 13
-pub part-after : (L : Asked) → windowsVerdict (windowedOf L) ≡ 0
-    → partVerdict L ≡ orElse (badSlice scheduleWidth maxPart (L .part)) 1 (orElse (partBad (L .tables) (L .part) (supplierOf L)) 13 0)
+pub part-after : (L : Asked) → windowsVerdict (windowedOf L) ≡ acceptedNumber
+    → partVerdict L
+    ≡ orElse (badSlice scheduleWidth maxPart (L .part)) shapeRefused
+    (orElse (partBad (L .tables) (L .part) (supplierOf L)) scheduleRefused acceptedNumber)
 unfolding partVerdict windowsVerdict partShapeBad windowsShapeBad
 part-after L e =
     let c = verdict-clear windowsRefusals (windowedOf L) (omega arith) e in
     λ i. orElse (c .0 i || badSlice scheduleWidth maxPart (L .part)) 1
-    (verdict-skip between (record { number = 13; applies = λ L. partBad (L .tables) (L .part) (supplierOf L) } ∷ []) L (c .1) i)
+    (verdict-skip between (record { number = scheduleRefused; applies = λ L. partBad (L .tables) (L .part) (supplierOf L) } ∷ [])
+    L (c .1) i)
 
 -- of a supplier's own tasks among some, a task of it is one exactly where it is among them
 pub own-member : (P : Program) (j t : ℕ) (ts : List ℕ) → task P t .supplier ≡ j → member t (ownTasks P j ts) ≡ member t ts
@@ -64,20 +68,21 @@ own-member P j t ts o =
     member-keep (λ x. eqb (task P x .supplier) j) t ts ∙ ap (λ (b : Bool). b && member t ts) (eq-eqb (task P t .supplier) j o)
 
 -- a declared task's supplier is one of the suppliers
-pub owner-declared : (T : Tables) → programVerdict T ≡ 0 → (t : ℕ) → t < taskCount T → task (programOf T) t .supplier < suppliers
+pub owner-declared : (T : Tables) → programVerdict T ≡ acceptedNumber → (t : ℕ) → t < taskCount T
+    → task (programOf T) t .supplier < suppliers
 owner-declared T a t l = subst (λ (K : Task). K .supplier < suppliers) (sym (task-row T t l)) (accepted-fields T a .tasks t l .supplier)
 
 -- a task of a supplier that is due in a declared mode of an accepted program is declared
-pub own-declared : (T : Tables) → programVerdict T ≡ 0 → (s m k j : ℕ) → m < modeCount T
+pub own-declared : (T : Tables) → programVerdict T ≡ acceptedNumber → (s m k j : ℕ) → m < modeCount T
     → member j (ownTasks (programOf T) s (dueTasks (mode (programOf T) m) k)) ≡ true → j < taskCount T
 own-declared T v s m k j l r =
     due-declared T v m k j l
     ((says-itself (eqb (task (programOf T) j .supplier) s) and says-itself (member j (dueTasks (mode (programOf T) m) k))) .yes
     (sym (member-keep (λ t. eqb (task (programOf T) t .supplier) s) j (dueTasks (mode (programOf T) m) k)) ∙ r) .1)
 
-module _ (L : Asked) (a : partVerdict L ≡ 0) where
+module _ (L : Asked) (a : partVerdict L ≡ acceptedNumber) where
   -- the program is accepted
-  pub part-accepted : programVerdict (L .tables) ≡ 0
+  pub part-accepted : programVerdict (L .tables) ≡ acceptedNumber
   unfolding partVerdict
   part-accepted =
       lent-accepted (λ (L : Asked). L .tables) partShapeBad (within (λ L. L .tables) longRefusal ∷ ownRefusals) L

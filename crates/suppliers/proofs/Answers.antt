@@ -6,7 +6,9 @@ use mathlib.Core.Logic.{_⊎_, inl, inr, ⊎-elim, _↔_}
 use native.Mathlib.Decide.{decLt}
 use native.Mathlib.Omega.{arith}
 use lib.ListN.{length}
+use Rattle.theory.specs.Verdict.{acceptedNumber}
 use Rattle.theory.proofs.Verdict.{verdict-among}
+use Rattle.cells.specs.Refusals.{shapeRefused, outsideRefused, lateRefused}
 use Rattle.program.specs.Program.{programOf}
 use Rattle.runs.specs.Round.{Break, none, outside, late, worstBreak, nothing}
 use Rattle.suppliers.specs.declared.Answer.{Answer}
@@ -16,7 +18,7 @@ use Rattle.suppliers.proofs.Modes.{Answered, answered}
 
 -- no place, or 14 or 15
 abbrev Placed : Answer → Type 0
-Placed a = (a ≡ record { number = 0; mode = 0; tick = 0 }) ⊎ ((a .number ≡ 14) ⊎ (a .number ≡ 15))
+Placed a = (a ≡ record { number = acceptedNumber; mode = 0; tick = 0 }) ⊎ ((a .number ≡ outsideRefused) ⊎ (a .number ≡ lateRefused))
 
 break-placed : (i : ℕ) (b : Break) → (b ≡ none → ⊥) → Placed (answerOf i b)
 break-placed i none d = absurd (d refl)
@@ -25,13 +27,14 @@ break-placed i (late t) d = inr (inr refl)
 
 module _ (L : Asked) where
   -- a number of 1 to 13 is the answer's, without a place
-  pub supplier-refused : (n : ℕ) → partVerdict L ≡ n → (n ≡ 0 → ⊥) → record { number = n; mode = 0; tick = 0 } ≡ supplierVerdict L
+  pub supplier-refused : (n : ℕ) → partVerdict L ≡ n → (n ≡ acceptedNumber → ⊥)
+      → record { number = n; mode = 0; tick = 0 } ≡ supplierVerdict L
   unfolding supplierVerdict
   supplier-refused zero e d = absurd (d refl)
   supplier-refused (suc n) e d = rw (e, supplierVerdict)
 
   -- without one the run decides
-  pub supplier-judged : partVerdict L ≡ 0 → judged L ≡ supplierVerdict L
+  pub supplier-judged : partVerdict L ≡ acceptedNumber → judged L ≡ supplierVerdict L
   unfolding supplierVerdict
   supplier-judged e = rw (e, supplierVerdict)
 
@@ -52,46 +55,46 @@ module _ (L : Asked) where
       go a (inr (i, b, w, q)) = subst Placed (sym q) (break-placed i b (w .is-break))
 
   -- an answer of the run without a number has no place
-  pub judged-accepted : judged L .number ≡ 0 → judged L ≡ record { number = 0; mode = 0; tick = 0 }
+  pub judged-accepted : judged L .number ≡ acceptedNumber → judged L ≡ record { number = acceptedNumber; mode = 0; tick = 0 }
   judged-accepted e = go judged-placed
     where
-      go : Placed (judged L) → judged L ≡ record { number = 0; mode = 0; tick = 0 }
+      go : Placed (judged L) → judged L ≡ record { number = acceptedNumber; mode = 0; tick = 0 }
       go (inl q) = q
       go (inr (inl q)) = absurd (omega (arith, e, q))
       go (inr (inr q)) = absurd (omega (arith, e, q))
 
   -- n of 1 to 13, without a place: exactly where that number is given before the run
-  pub refused-exactly : (n : ℕ) → 1 ≤ n → n ≤ lastStatic → (supplierVerdict L ≡ record { number = n; mode = 0; tick = 0 }) ↔ (partVerdict L ≡ n)
-  refused-exactly n l k = (λ e. there (decLt 0 (partVerdict L)) judged-placed (ap (λ (a : Answer). a .number) e), λ e. sym (supplier-refused n e (λ z. omega arith)))
+  pub refused-exactly : (n : ℕ) → shapeRefused ≤ n → n ≤ lastStatic → (supplierVerdict L ≡ record { number = n; mode = 0; tick = 0 }) ↔ (partVerdict L ≡ n)
+  refused-exactly n l k = (λ e. there (decLt acceptedNumber (partVerdict L)) judged-placed (ap (λ (a : Answer). a .number) e), λ e. sym (supplier-refused n e (λ z. omega arith)))
     where
-      there : Dec (0 < partVerdict L) → Placed (judged L) → supplierVerdict L .number ≡ n → partVerdict L ≡ n
+      there : Dec (acceptedNumber < partVerdict L) → Placed (judged L) → supplierVerdict L .number ≡ n → partVerdict L ≡ n
       there (yes h) p e = ap (λ (a : Answer). a .number) (supplier-refused (partVerdict L) refl (λ z. omega (arith, h))) ∙ e
       there (no h) p e =
           let z : judged L .number ≡ n = ap (λ (a : Answer). a .number) (supplier-judged (omega (arith, h))) ∙ e in
           absurd (⊎-elim (λ q. omega (arith, z, ap (λ (a : Answer). a .number) q)) (λ r. ⊎-elim (λ q. omega (arith, z, q)) (λ q. omega (arith, z, q)) r) p)
 
   -- any other answer: exactly where none is, and the run comes to it
-  pub judged-exactly : (a : Answer) → (a .number ≡ 0) ⊎ (lastStatic < a .number) → (supplierVerdict L ≡ a) ↔ ((partVerdict L ≡ 0) × (judged L ≡ a))
-  judged-exactly a o = (λ e. there (decLt 0 (partVerdict L)) e o, λ w. sym (supplier-judged (w .0)) ∙ w .1)
+  pub judged-exactly : (a : Answer) → (a .number ≡ acceptedNumber) ⊎ (lastStatic < a .number) → (supplierVerdict L ≡ a) ↔ ((partVerdict L ≡ acceptedNumber) × (judged L ≡ a))
+  judged-exactly a o = (λ e. there (decLt acceptedNumber (partVerdict L)) e o, λ w. sym (supplier-judged (w .0)) ∙ w .1)
     where
-      there : Dec (0 < partVerdict L) → supplierVerdict L ≡ a → (a .number ≡ 0) ⊎ (lastStatic < a .number) → (partVerdict L ≡ 0) × (judged L ≡ a)
+      there : Dec (acceptedNumber < partVerdict L) → supplierVerdict L ≡ a → (a .number ≡ acceptedNumber) ⊎ (lastStatic < a .number) → (partVerdict L ≡ acceptedNumber) × (judged L ≡ a)
       there (yes h) e o =
           let z : partVerdict L ≡ a .number = ap (λ (a : Answer). a .number) (supplier-refused (partVerdict L) refl (λ z. omega (arith, h)) ∙ e) in
           absurd (⊎-elim (λ q. omega (arith, h, z, q)) (λ q. omega (arith, part-few, z, q)) o)
-      there (no h) e o = let z : partVerdict L ≡ 0 = omega (arith, h) in (z, supplier-judged z ∙ e)
+      there (no h) e o = let z : partVerdict L ≡ acceptedNumber = omega (arith, h) in (z, supplier-judged z ∙ e)
 
   -- a number of 1 to 13 or none has no place; else it is 14 or 15
   pub only-these : ((supplierVerdict L .number ≤ lastStatic) × (supplierVerdict L .mode ≡ 0) × (supplierVerdict L .tick ≡ 0))
-      ⊎ ((supplierVerdict L .number ≡ 14) ⊎ (supplierVerdict L .number ≡ 15))
-  only-these = go (decLt 0 (partVerdict L))
+      ⊎ ((supplierVerdict L .number ≡ outsideRefused) ⊎ (supplierVerdict L .number ≡ lateRefused))
+  only-these = go (decLt acceptedNumber (partVerdict L))
     where
       Told : Answer → Type 0
-      Told a = ((a .number ≤ lastStatic) × (a .mode ≡ 0) × (a .tick ≡ 0)) ⊎ ((a .number ≡ 14) ⊎ (a .number ≡ 15))
+      Told a = ((a .number ≤ lastStatic) × (a .mode ≡ 0) × (a .tick ≡ 0)) ⊎ ((a .number ≡ outsideRefused) ⊎ (a .number ≡ lateRefused))
 
       told : (a : Answer) → Placed a → Told a
       told a (inl q) = subst Told (sym q) (inl (omega arith, refl, refl))
       told a (inr q) = inr q
 
-      go : Dec (0 < partVerdict L) → Told (supplierVerdict L)
+      go : Dec (acceptedNumber < partVerdict L) → Told (supplierVerdict L)
       go (yes h) = subst Told (supplier-refused (partVerdict L) refl (λ z. omega (arith, h))) (inl (part-few, refl, refl))
       go (no h) = subst Told (supplier-judged (omega (arith, h))) (told (judged L) judged-placed)

@@ -11,6 +11,7 @@ use lib.IntN.{ℤ}
 use lib.ListN.{length, replicate}
 use borrow.Author.Tests.{lt-ltb}
 use Rattle.theory.specs.Search.{any}
+use Rattle.theory.specs.Verdict.{acceptedNumber}
 use Rattle.cells.specs.Limits.{suppliers, maxPart, maxCode}
 use Rattle.program.specs.Tables.{Tables}
 use Rattle.program.proofs.Decoded.{sensors-rows}
@@ -31,16 +32,16 @@ word-says timeout word (some d) e h =
     ap (λ (n : ℕ). ltb 0 n && leb timeout n) e ∙ ap (λ (b : Bool). b && leb timeout d) (lt-ltb 0 d (h d refl))
 
 -- the table of the listing
-table-says : (T : Tables) → programVerdict T ≡ 0 → CodeFits T → Tabled T (marked (listingOf T) 0 (replicate maxCode 0))
+table-says : (T : Tables) → programVerdict T ≡ acceptedNumber → CodeFits T → Tabled T (marked (listingOf T) 0 (replicate maxCode 0))
 unfolding delayFits
 table-says T v l a timeout =
     word-says timeout _ (delayAt (listingOf T) a) (table-exact (listingOf T) l a) (λ d e. delay-in-range T v a d e .0)
 
 -- the one that is counted
-counted-says : (T : Tables) → programVerdict T ≡ 0 → CodeFits T → Tabled T (countedDelays T)
+counted-says : (T : Tables) → programVerdict T ≡ acceptedNumber → CodeFits T → Tabled T (countedDelays T)
 counted-says T v l = subst (Tabled T) (listing-marked T _ (ap length (sym (sensors-rows T))) v (replicate maxCode 0)) (table-says T v l)
 
-module _ (T : Tables) (v : programVerdict T ≡ 0) (l : CodeFits T) (S : List ℤ) where
+module _ (T : Tables) (v : programVerdict T ≡ acceptedNumber) (l : CodeFits T) (S : List ℤ) where
   -- a row is wrong by the counted delays as by the listing
   wrong-counted : (i : ℕ) → rowWrongBy T (countedDelays T) S i ≡ rowWrong T (listingOf T) S i
   unfolding rowWrongBy rowWrong

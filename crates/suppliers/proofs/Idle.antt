@@ -9,10 +9,11 @@ use lib.Dec.{eqb}
 use lib.IntN.{ℤ}
 use lib.ListN.{drop}
 use Rattle.theory.specs.Lists.{member}
-use Rattle.theory.specs.Verdict.{orElse}
+use Rattle.theory.specs.Verdict.{acceptedNumber, orElse}
 use Rattle.theory.proofs.Bools.{clash, bars-iff, says-eq, says-itself, _and_}
 use Rattle.theory.proofs.Members.{member-keep}
 use Rattle.cells.specs.Limits.{suppliers, maxPart}
+use Rattle.cells.specs.Refusals.{scheduleRefused}
 use Rattle.program.specs.Tables.{Tables, modeCount, taskCount, taskSupplier}
 use Rattle.program.specs.Program.{Program, Task, programOf, task, mode, nextUnit, dueTasks}
 use Rattle.program.proofs.Decoded.{task-row}
@@ -48,7 +49,7 @@ nothing-runs e p = go (moved [] e p)
     go zero r = clash {b = false} r refl
     go (suc n) r = clash {b = false} r refl
 
-module _ (T : Tables) (W : List ℤ) (s : ℕ) (accepted : programVerdict T ≡ 0)
+module _ (T : Tables) (W : List ℤ) (s : ℕ) (accepted : programVerdict T ≡ acceptedNumber)
     (no-tasks : (t : ℕ) → t < taskCount T → taskSupplier T t ≡ s → ⊥) where
   abbrev P : Program
   P = programOf T
@@ -69,9 +70,9 @@ module _ (T : Tables) (W : List ℤ) (s : ℕ) (accepted : programVerdict T ≡ 
   }
 
 -- so it is accepted
-pub idle-accepted : (L : Asked) → windowsVerdict (windowedOf L) ≡ 0 → supplierOf L < suppliers → L .part ≡ []
+pub idle-accepted : (L : Asked) → windowsVerdict (windowedOf L) ≡ acceptedNumber → supplierOf L < suppliers → L .part ≡ []
     → ((t : ℕ) → t < taskCount (L .tables) → taskSupplier (L .tables) t ≡ supplierOf L → ⊥)
-    → supplierVerdict L ≡ record { number = 0; mode = 0; tick = 0 }
+    → supplierVerdict L ≡ record { number = acceptedNumber; mode = 0; tick = 0 }
 idle-accepted L w l e f =
     ap supplierVerdict same
     ∙ good-accepted idle passes (idle-good (L .tables) (L .windows) (supplierOf L) (windows-accepted (windowedOf L) w) f)
@@ -82,8 +83,9 @@ idle-accepted L w l e f =
     same : L ≡ idle
     same = λ i. record { tables = L .tables; windows = L .windows; part = e i; supplier = L .supplier }
 
-    passes : partVerdict idle ≡ 0
+    passes : partVerdict idle ≡ acceptedNumber
     passes =
         part-after idle w
         ∙ (λ i. orElse (bars-iff (slice-bars {A = ℤ} scheduleWidth maxPart []) .1 (0, refl, omega arith) i) 1
-        (orElse (bars-iff (part-bars (L .tables) [] (supplierOf L)) .1 (no-rows (L .tables) (supplierOf L) l) i) 13 0))
+        (orElse (bars-iff (part-bars (L .tables) [] (supplierOf L)) .1 (no-rows (L .tables) (supplierOf L) l) i) scheduleRefused
+        acceptedNumber))

@@ -3,6 +3,7 @@
 use Prim.Native.Nat.{ℕ, _<_}
 use mathlib.Core.Path.{_≡_, sym, ap, _∙_}
 use native.Mathlib.Omega.{arith}
+use Rattle.theory.specs.Verdict.{acceptedNumber}
 use Rattle.program.specs.Tables.{modeCount}
 use Rattle.program.proofs.Decoded.{mode-count}
 use Rattle.runs.specs.Round.{Good, worstCase, none, worstBreak, nothing}
@@ -15,10 +16,10 @@ use Rattle.suppliers.proofs.Answers.{supplier-judged}
 pub judged-modes : (L : Asked) → judged L ≡ answerFrom (λ m. worstBreak (courseOf L m) nothing) (modeCount (L .tables)) 0
 judged-modes L = ap (λ n. answerFrom (λ m. worstBreak (courseOf L m) nothing) n 0) (mode-count (L .tables))
 
-module _ (L : Asked) (a : partVerdict L ≡ 0) where
+module _ (L : Asked) (a : partVerdict L ≡ acceptedNumber) where
   -- accepted where every worst-case run is good
   pub good-accepted : ((m : ℕ) → m < modeCount (L .tables) → Good (courseOf L m) (worstCase (courseOf L m)) nothing)
-      → supplierVerdict L ≡ record { number = 0; mode = 0; tick = 0 }
+      → supplierVerdict L ≡ record { number = acceptedNumber; mode = 0; tick = 0 }
   good-accepted g =
       sym (supplier-judged L a)
       ∙ judged-modes L

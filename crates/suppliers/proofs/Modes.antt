@@ -5,6 +5,8 @@ use mathlib.Core.Path.{_≡_, refl, sym, ap, subst, subst₂, _∙_}
 use mathlib.Core.Logic.{_⊎_, inl, inr, _↔_}
 use native.Mathlib.Omega.{arith}
 use native.Mathlib.Decide.{ℕ-discrete, decLt}
+use Rattle.theory.specs.Verdict.{acceptedNumber}
+use Rattle.cells.specs.Refusals.{outsideRefused, lateRefused}
 use Rattle.runs.specs.Round.{Break, none, outside, late}
 use Rattle.suppliers.specs.Supplier.{answerOf, answerFrom}
 use Rattle.suppliers.specs.declared.Answer.{Answer}
@@ -27,7 +29,7 @@ Answered breaks n m a =
     (AllGood breaks n m × (a ≡ answerOf 0 none)) ⊎ ((i : ℕ) × (b : Break) × BreaksFirst breaks n m i b × (a ≡ answerOf i b))
 
 -- the answer on a break has a number, and tells the mode and the break
-some-number : (m : ℕ) (b : Break) → (b ≡ none → ⊥) → answerOf m b .number ≡ 0 → ⊥
+some-number : (m : ℕ) (b : Break) → (b ≡ none → ⊥) → answerOf m b .number ≡ acceptedNumber → ⊥
 some-number m none d e = d refl
 some-number m (outside t) d e = omega arith
 some-number m (late t) d e = omega arith
@@ -36,9 +38,11 @@ answer-one : (i j : ℕ) (b c : Break) → (b ≡ none → ⊥) → (c ≡ none 
 answer-one i j none c d f e = absurd (d refl)
 answer-one i j (outside s) none d f e = absurd (f refl)
 answer-one i j (outside s) (outside t) d f e = (ap (λ (a : Answer). a .mode) e, ap (λ (a : Answer). outside (a .tick)) e)
-answer-one i j (outside s) (late t) d f e = absurd (let z : _≡_ {A = ℕ} 14 15 = ap (λ (a : Answer). a .number) e in omega arith)
+answer-one i j (outside s) (late t) d f e =
+    absurd (let z : _≡_ {A = ℕ} outsideRefused lateRefused = ap (λ (a : Answer). a .number) e in omega arith)
 answer-one i j (late s) none d f e = absurd (f refl)
-answer-one i j (late s) (outside t) d f e = absurd (let z : _≡_ {A = ℕ} 15 14 = ap (λ (a : Answer). a .number) e in omega arith)
+answer-one i j (late s) (outside t) d f e =
+    absurd (let z : _≡_ {A = ℕ} lateRefused outsideRefused = ap (λ (a : Answer). a .number) e in omega arith)
 answer-one i j (late s) (late t) d f e = (ap (λ (a : Answer). a .mode) e, ap (λ (a : Answer). late (a .tick)) e)
 
 module _ (breaks : ℕ → Break) where
@@ -93,10 +97,10 @@ module _ (breaks : ℕ → Break) where
       go a (inr (i, b, w, q)) = absurd (w .is-break (sym (w .break) ∙ g i (w .from) (w .below)))
 
   -- the answer's number is 0 exactly where no run breaks
-  pub answer-good : (n m : ℕ) → (answerFrom breaks n m .number ≡ 0) ↔ AllGood breaks n m
+  pub answer-good : (n m : ℕ) → (answerFrom breaks n m .number ≡ acceptedNumber) ↔ AllGood breaks n m
   answer-good n m = (λ e. there (answerFrom breaks n m) (answered n m) e, λ g. ap (λ (a : Answer). a .number) (answer-none n m g))
     where
-      there : (a : Answer) → Answered breaks n m a → a .number ≡ 0 → AllGood breaks n m
+      there : (a : Answer) → Answered breaks n m a → a .number ≡ acceptedNumber → AllGood breaks n m
       there a (inl (g, q)) e = g
       there a (inr (i, b, w, q)) e = absurd (some-number i b (w .is-break) (sym (ap (λ (a : Answer). a .number) q) ∙ e))
 

@@ -14,6 +14,7 @@ use Rattle.theory.specs.Search.{any}
 use Rattle.theory.specs.Lists.{those}
 use Rattle.cells.specs.Cell.{wordAt}
 use Rattle.cells.specs.Limits.{suppliers, maxPart}
+use Rattle.cells.specs.Refusals.{scheduleRefused}
 use Rattle.program.specs.Tables.{Tables, taskCount, taskSupplier}
 use Rattle.code.specs.Op.{Op}
 use Rattle.code.specs.Compile.{listingOf, delayAt}
@@ -21,7 +22,7 @@ use Rattle.runs.specs.Schedule.{scheduleCount, rowSupplier, rowAddress, rowKind
 
 -- the last number that is given before anything runs, but for 21
 abbrev pub lastStatic : ℕ
-lastStatic = 13
+lastStatic = scheduleRefused
 
 -- the timeout is within the delay, if there is one
 abbrev pub inDelay : Option ℕ → ℕ → Bool

@@ -7,9 +7,10 @@ use lib.Dec.{eqb}
 use lib.IntN.{ℤ}
 use lib.ListN.{length}
 use Rattle.theory.specs.Lists.{keep}
-use Rattle.theory.specs.Verdict.{Refusal, verdict, Rule}
+use Rattle.theory.specs.Verdict.{acceptedNumber, Refusal, verdict, Rule}
 use Rattle.cells.specs.Cell.{indexOf}
 use Rattle.cells.specs.Limits.{maxWindows, maxPart}
+use Rattle.cells.specs.Refusals.{windowsRefused, scheduleRefused, outsideRefused, lateRefused}
 use Rattle.program.specs.Tables.{Tables}
 use Rattle.program.specs.Program.{Program, programOf, task, mode, ticksOf, nextUnit, dueTasks}
 use Rattle.rules.specs.Shape.{badSlice, shapeBad, WholeRows, Shaped}
@@ -53,9 +54,9 @@ courseOf L m = course (programOf (L .tables)) (L .windows) (L .part) (supplierOf
 
 -- the number and the tick of the first break of a run
 abbrev pub breakNumber : Break → ℕ
-breakNumber none = 0
-breakNumber (outside t) = 14
-breakNumber (late t) = 15
+breakNumber none = acceptedNumber
+breakNumber (outside t) = outsideRefused
+breakNumber (late t) = lateRefused
 
 abbrev pub breakTick : Break → ℕ
 breakTick none = 0
@@ -64,7 +65,7 @@ breakTick (late t) = t
 
 -- the answer on a mode with its first break: only a break adds a place
 abbrev pub answerOf : ℕ → Break → Answer
-answerOf m none = record { number = 0; mode = 0; tick = 0 }
+answerOf m none = record { number = acceptedNumber; mode = 0; tick = 0 }
 answerOf m (outside t) = record { number = breakNumber (outside t); mode = m; tick = t }
 answerOf m (late t) = record { number = breakNumber (late t); mode = m; tick = t }
 
@@ -91,8 +92,8 @@ windowedOf L = record { tables = L .tables; windows = L .windows }
 
 abbrev pub ownRefusals : List (Refusal Asked)
 ownRefusals =
-    record { number = 12; applies = λ L. windowsBad (windowedOf L) }
-    ∷ record { number = 13; applies = λ L. partBad (L .tables) (L .part) (supplierOf L) }
+    record { number = windowsRefused; applies = λ L. windowsBad (windowedOf L) }
+    ∷ record { number = scheduleRefused; applies = λ L. partBad (L .tables) (L .part) (supplierOf L) }
     ∷ []
 
 abbrev pub partRefusals : List (Refusal Asked)
@@ -106,8 +107,8 @@ PartShaped L = Shaped (L .tables) × WholeRows windowWidth maxWindows (L .window
 
 abbrev pub ownRules : List (Rule Asked)
 ownRules =
-    record { number = 12; holds = λ L. Windows (windowedOf L) }
-    ∷ record { number = 13; holds = λ L. Part (L .tables) (L .part) (supplierOf L) }
+    record { number = windowsRefused; holds = λ L. Windows (windowedOf L) }
+    ∷ record { number = scheduleRefused; holds = λ L. Part (L .tables) (L .part) (supplierOf L) }
     ∷ []
 
 abbrev pub partRules : List (Rule Asked)

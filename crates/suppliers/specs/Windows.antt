@@ -8,6 +8,7 @@ use lib.IntN.{ℤ}
 use Rattle.theory.specs.Search.{any}
 use Rattle.theory.specs.Verdict.{Refusal, verdict, Rule}
 use Rattle.cells.specs.Limits.{suppliers, maxWindows}
+use Rattle.cells.specs.Refusals.{windowsRefused}
 use Rattle.program.specs.Tables.{Tables, modeCount, modePeriod}
 use Rattle.rules.specs.Shape.{badSlice, shapeBad, WholeRows, Shaped}
 use Rattle.code.specs.Compile.{lentRefusals, lentRules}
@@ -45,7 +46,7 @@ unfoldable pub windowsShapeBad : Windowed → Bool
 windowsShapeBad L = shapeBad (L .tables) || badSlice windowWidth maxWindows (L .windows)
 
 abbrev pub windowRefusals : List (Refusal Windowed)
-windowRefusals = record { number = 12; applies = windowsBad } ∷ []
+windowRefusals = record { number = windowsRefused; applies = windowsBad } ∷ []
 
 abbrev pub windowsRefusals : List (Refusal Windowed)
 windowsRefusals = lentRefusals (λ L. L .tables) windowsShapeBad windowRefusals
@@ -57,7 +58,7 @@ abbrev pub WindowsShaped : Windowed → Type 0
 WindowsShaped L = Shaped (L .tables) × WholeRows windowWidth maxWindows (L .windows)
 
 abbrev pub windowRules : List (Rule Windowed)
-windowRules = record { number = 12; holds = Windows } ∷ []
+windowRules = record { number = windowsRefused; holds = Windows } ∷ []
 
 abbrev pub windowsRules : List (Rule Windowed)
 windowsRules = lentRules (λ L. L .tables) WindowsShaped windowRules

@@ -3,6 +3,7 @@ ghost use mathlib.Core.Path.{_≡_};
 ghost use Prim.Native.Nat.{_≤_};
 ghost use lib.Dec.{ltb};
 ghost use Rattle.theory.specs.Search.{any};
+ghost use Rattle.theory.specs.Verdict.{acceptedNumber};
 ghost use Rattle.cells.specs.Cell.{rowsIn};
 ghost use Rattle.cells.specs.Limits.{suppliers, maxPart, maxPorts, maxModes};
 ghost use Rattle.program.specs.Tables.{Tables, portWidth, modeWidth};
@@ -65,7 +66,8 @@ pub fn refused(
         → T .switches ≡ now (switches .entry) → r ≡ joinedBadBy T (countedDelays T) (now (rows .entry))) ⌝ }
     ensures listed { λ r. ⌜ ((T : Tables) → T .ports ≡ now (ports .entry) → T .tasks ≡ now (tasks .entry)
         → T .modes ≡ now (modes .entry) → T .invocations ≡ now (invocations .entry) → T .updates ≡ now (updates .entry)
-        → T .switches ≡ now (switches .entry) → programVerdict T ≡ 0 → CodeFits T → r ≡ joinedBad T (now (rows .entry))) ⌝ }
+        → T .switches ≡ now (switches .entry) → programVerdict T ≡ acceptedNumber → CodeFits T
+        → r ≡ joinedBad T (now (rows .entry))) ⌝ }
 {
     let mut table = [0u32; Program::CODE];
     delays::fill(ports, modes, invocations, updates, switches, &mut table);

@@ -1,6 +1,7 @@
 // Number 13 of a program that numbers 1 to 11 pass: the delays of its listing are put in a table, and the rows held against it.
 ghost use mathlib.Core.Path.{_≡_};
 ghost use Prim.Native.Nat.{_≤_};
+ghost use Rattle.theory.specs.Verdict.{acceptedNumber};
 ghost use Rattle.cells.specs.Cell.{rowsIn};
 ghost use Rattle.cells.specs.Limits.{maxPorts, maxModes};
 ghost use Rattle.program.specs.Tables.{Tables, portWidth, modeWidth};
@@ -32,7 +33,8 @@ pub fn refused(
         → T .switches ≡ now (switches .entry) → r ≡ partBadBy T (countedDelays T) (now (rows .entry)) supplier) ⌝ }
     ensures listed { λ r. ⌜ ((T : Tables) → T .ports ≡ now (ports .entry) → T .tasks ≡ now (tasks .entry)
         → T .modes ≡ now (modes .entry) → T .invocations ≡ now (invocations .entry) → T .updates ≡ now (updates .entry)
-        → T .switches ≡ now (switches .entry) → programVerdict T ≡ 0 → CodeFits T → r ≡ partBad T (now (rows .entry)) supplier) ⌝ }
+        → T .switches ≡ now (switches .entry) → programVerdict T ≡ acceptedNumber → CodeFits T
+        → r ≡ partBad T (now (rows .entry)) supplier) ⌝ }
 {
     let mut table = [0u32; Program::CODE];
     delays::fill(ports, modes, invocations, updates, switches, &mut table);

@@ -1,5 +1,6 @@
 -- The verdict is the first number that applies: n exactly where the rule of number n is broken and no earlier one is.
--- Assumes that each refusal's test bars the rule of its number where the earlier rules hold (`Barred`), and that no number is 0.
+-- Assumes that each refusal's test bars the rule of its number where the earlier rules hold (`Barred`), and that no number is
+-- `acceptedNumber`.
 use Prim.Native.Nat.{ℕ, zero, suc, _<_}
 use mathlib.Core.Path.{_≡_, refl, sym, ap, _∙_}
 use mathlib.Core.Bool.{Bool, true, false}
@@ -7,15 +8,15 @@ use mathlib.Core.List.{List, [], _∷_, _++_, map}
 use mathlib.Core.Logic.{_⊎_, inl, inr, _↔_}
 use native.Mathlib.Omega.{arith}
 use Rattle.theory.specs.Claim.{Bars}
-use Rattle.theory.specs.Verdict.{orElse, Refusal, within, verdict, Rule, holding, First, Keep, after}
+use Rattle.theory.specs.Verdict.{acceptedNumber, orElse, Refusal, within, verdict, Rule, holding, First, Keep, after}
 
 -- a number that was given stays
-pub after-given : (m n : ℕ) → 0 < m → after m n ≡ m
+pub after-given : (m n : ℕ) → acceptedNumber < m → after m n ≡ m
 after-given zero n l = absurd (omega arith)
 after-given (suc m) n l = refl
 
 -- there is neither
-pub after-none : (m n : ℕ) → after m n ≡ 0 → (m ≡ 0) × (n ≡ 0)
+pub after-none : (m n : ℕ) → after m n ≡ acceptedNumber → (m ≡ acceptedNumber) × (n ≡ acceptedNumber)
 after-none zero n e = (refl, e)
 after-none (suc m) n e = absurd (omega arith)
 
@@ -50,14 +51,15 @@ module _ {A : Type 0} where
   -- no rule has the number of acceptance
   abbrev pub Numbered : List (Rule A) → Type 0
   Numbered [] = Unit {0}
-  Numbered (g ∷ gs) = (g .number ≡ 0 → ⊥) × Numbered gs
+  Numbered (g ∷ gs) = (g .number ≡ acceptedNumber → ⊥) × Numbered gs
 
   -- accepted exactly where every rule holds
-  pub first-none : (gs : List (Rule A)) (a : A) → Numbered gs → First gs a 0 ↔ Keep gs a
+  pub first-none : (gs : List (Rule A)) (a : A) → Numbered gs → First gs a acceptedNumber ↔ Keep gs a
   first-none [] a w = (λ e. tt, λ e. refl)
   first-none (g ∷ gs) a w = (there (first-none gs a (w .1) .0), λ k. inr (k .0, first-none gs a (w .1) .1 (k .1)))
     where
-      there : (First gs a 0 → Keep gs a) → ((g .holds a → ⊥) × (0 ≡ g .number)) ⊎ (g .holds a × First gs a 0) → g .holds a × Keep gs a
+      there : (First gs a acceptedNumber → Keep gs a)
+          → ((g .holds a → ⊥) × (acceptedNumber ≡ g .number)) ⊎ (g .holds a × First gs a acceptedNumber) → g .holds a × Keep gs a
       there ih (inl x) = absurd (w .0 (sym (x .1)))
       there ih (inr x) = (x .0, ih (x .1))
 
@@ -80,19 +82,20 @@ module _ {A : Type 0} where
   -- no refusal has the number of acceptance
   abbrev pub Refused : List (Refusal A) → Type 0
   Refused [] = Unit {0}
-  Refused (r ∷ rs) = (r .number ≡ 0 → ⊥) × Refused rs
+  Refused (r ∷ rs) = (r .number ≡ acceptedNumber → ⊥) × Refused rs
 
   -- accepted: no test applies
-  pub verdict-clear : (rs : List (Refusal A)) (a : A) → Refused rs → verdict rs a ≡ 0 → Clear rs a
+  pub verdict-clear : (rs : List (Refusal A)) (a : A) → Refused rs → verdict rs a ≡ acceptedNumber → Clear rs a
   verdict-clear [] a w e = tt
   verdict-clear (r ∷ rs) a w e = go (r .applies a) refl e (verdict-clear rs a (w .1))
     where
-      go : (b : Bool) → r .applies a ≡ b → orElse b (r .number) (verdict rs a) ≡ 0 → (verdict rs a ≡ 0 → Clear rs a) → Clear (r ∷ rs) a
+      go : (b : Bool) → r .applies a ≡ b → orElse b (r .number) (verdict rs a) ≡ acceptedNumber
+          → (verdict rs a ≡ acceptedNumber → Clear rs a) → Clear (r ∷ rs) a
       go true q z ih = absurd (w .0 z)
       go false q z ih = (q, ih z)
 
   -- no test applies: accepted
-  pub clear-verdict : (rs : List (Refusal A)) (a : A) → Clear rs a → verdict rs a ≡ 0
+  pub clear-verdict : (rs : List (Refusal A)) (a : A) → Clear rs a → verdict rs a ≡ acceptedNumber
   clear-verdict [] a c = refl
   clear-verdict (r ∷ rs) a c = rw (c .0, verdict) (clear-verdict rs a (c .1))
 
@@ -101,7 +104,7 @@ module _ {A : Type 0} where
   verdict-append [] qs a w = refl
   verdict-append (r ∷ rs) qs a w = go (r .applies a) (r .number) (w .0) (verdict-append rs qs a (w .1))
     where
-      go : (b : Bool) (n : ℕ) → (n ≡ 0 → ⊥) → verdict (rs ++ qs) a ≡ after (verdict rs a) (verdict qs a)
+      go : (b : Bool) (n : ℕ) → (n ≡ acceptedNumber → ⊥) → verdict (rs ++ qs) a ≡ after (verdict rs a) (verdict qs a)
           → orElse b n (verdict (rs ++ qs) a) ≡ after (orElse b n (verdict rs a)) (verdict qs a)
       go true zero d ih = absurd (d refl)
       go true (suc n) d ih = refl
@@ -112,8 +115,8 @@ module _ {A : Type 0} where
   Among N [] = Unit {0}
   Among N (r ∷ rs) = N (r .number) × Among N rs
 
-  -- so is the verdict, where 0 is one too
-  pub verdict-among : (N : ℕ → Type 0) → N 0 → (rs : List (Refusal A)) (a : A) → Among N rs → N (verdict rs a)
+  -- so is the verdict, where the number of acceptance is one too
+  pub verdict-among : (N : ℕ → Type 0) → N acceptedNumber → (rs : List (Refusal A)) (a : A) → Among N rs → N (verdict rs a)
   verdict-among N z [] a w = z
   verdict-among N z (r ∷ rs) a w = go (r .applies a) (verdict-among N z rs a (w .1))
     where
@@ -127,7 +130,8 @@ module _ {A : Type 0} where
   verdict-skip (r ∷ rs) qs a c = (λ i. orElse (c .0 i) (r .number) (verdict (rs ++ qs) a)) ∙ verdict-skip rs qs a (c .1)
 
   -- accepted by them together: by each
-  pub verdict-both : (rs qs : List (Refusal A)) (a : A) → Refused rs → verdict (rs ++ qs) a ≡ 0 → (verdict rs a ≡ 0) × (verdict qs a ≡ 0)
+  pub verdict-both : (rs qs : List (Refusal A)) (a : A) → Refused rs → verdict (rs ++ qs) a ≡ acceptedNumber
+      → (verdict rs a ≡ acceptedNumber) × (verdict qs a ≡ acceptedNumber)
   verdict-both rs qs a w e = after-none (verdict rs a) (verdict qs a) (sym (verdict-append rs qs a w) ∙ e)
 
 -- a refusal in a call that is lent more has the same number

@@ -6,6 +6,10 @@ use mathlib.Core.Bool.{Bool, true, false}
 use mathlib.Core.List.{List, [], _∷_}
 use mathlib.Core.Logic.{_⊎_}
 
+-- accepted: no number applies
+abbrev pub acceptedNumber : ℕ
+acceptedNumber = 0
+
 -- n where the test applies, else the rest
 abbrev pub orElse : Bool → ℕ → ℕ → ℕ
 orElse true n rest = n
@@ -25,9 +29,9 @@ pub record Refusal (A : Type 0) : Type 0 where
 abbrev pub within : {A B : Type 0} → (B → A) → Refusal A → Refusal B
 within f r = record { number = r .number; applies = λ b. r .applies (f b) }
 
--- the first number that applies; accepted is 0
+-- the first number that applies
 abbrev pub verdict : {A : Type 0} → List (Refusal A) → A → ℕ
-verdict [] a = 0
+verdict [] a = acceptedNumber
 verdict (r ∷ rs) a = let rest = verdict rs a in orElse (r .applies a) (r .number) rest
 
 -- a rule: its number, and what must hold of what is lent
@@ -39,9 +43,9 @@ pub record Rule (A : Type 0) : Type 1 where
 abbrev pub holding : {A B : Type 0} → (B → A) → Rule A → Rule B
 holding f r = record { number = r .number; holds = λ b. r .holds (f b) }
 
--- n is the number of the first rule that is broken, and 0 where every rule holds
+-- n is the number of the first rule that is broken, and `acceptedNumber` where every rule holds
 abbrev pub First : {A : Type 0} → List (Rule A) → A → ℕ → Type 0
-First [] a n = n ≡ 0
+First [] a n = n ≡ acceptedNumber
 First (r ∷ rs) a n = ((r .holds a → ⊥) × (n ≡ r .number)) ⊎ (r .holds a × First rs a n)
 
 -- every rule holds

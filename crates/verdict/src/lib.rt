@@ -12,6 +12,7 @@ use cells::columns::mode_port;
 use cells::columns::switch;
 use cells::columns::task_port;
 use cells::columns::update;
+use cells::refusals;
 use declared::copies;
 use declared::mode_ports;
 use declared::task_ports;
@@ -56,16 +57,16 @@ pub fn table_verdict(
         switches,
         start,
     ) {
-        return 2;
+        return refusals::FIELDS;
     }
     if task_ports::first_task_port_clash(ports, task_ports) < task_ports.len() / task_port::WIDTH {
-        return 3;
+        return refusals::TASK_PORTS;
     }
     if copies::first_copy_clash(copies) < copies.len() / copy::WIDTH {
-        return 4;
+        return refusals::COPIES;
     }
     if mode_ports::first_mode_port_clash(ports, mode_ports) < mode_ports.len() / mode_port::WIDTH {
-        return 5;
+        return refusals::MODE_PORTS;
     }
     if invocations::first_wrong_invocation(
         ports,
@@ -77,25 +78,25 @@ pub fn table_verdict(
     )
         < invocations.len() / invocation::WIDTH
     {
-        return 6;
+        return refusals::INVOCATIONS;
     }
     if updates::first_wrong_update(ports, drivers, copies, mode_ports, updates)
         < updates.len() / update::WIDTH
     {
-        return 7;
+        return refusals::UPDATES;
     }
     if switches::first_wrong_switch(ports, drivers, copies, mode_ports, switches)
         < switches.len() / switch::WIDTH
     {
-        return 8;
+        return refusals::SWITCHES;
     }
     if units::first_wrong_units(modes, invocations, updates, switches) < modes.len() / mode::WIDTH {
-        return 9;
+        return refusals::UNITS;
     }
     if whole::first_not_whole(invocations, switches) < switches.len() / switch::WIDTH {
-        return 10;
+        return refusals::WHOLE;
     }
-    0
+    refusals::ACCEPTED
 }
 
 // Any slices at all may be lent.
@@ -128,7 +129,7 @@ pub fn program_verdict(
         updates,
         switches,
     ) {
-        return 1;
+        return refusals::SHAPE;
     }
     table_verdict(
         ports,

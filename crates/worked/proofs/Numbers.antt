@@ -1,10 +1,15 @@
--- Document 01's numbers, where a name stands for them elsewhere: the most rows of each table, F's tables and code as plain numbers, a program for
--- each refusal of a program and of windows, and the fields at their limits. Assumes nothing.
+-- Document 01's numbers, where a name stands for them elsewhere: the most rows of each table, the refusal numbers, F's tables and code as
+-- plain numbers, a program for each refusal of a program and of windows, and the fields at their limits. Assumes nothing.
 use Prim.Native.Nat.{ℕ}
 use mathlib.Core.Path.{_≡_, refl}
 use mathlib.Core.List.{List, [], _∷_}
 use lib.IntN.{ℤ}
+use Rattle.theory.specs.Verdict.{acceptedNumber}
 use Rattle.cells.specs.Limits.{maxPorts, maxTasks, maxTaskPorts, maxDrivers, maxCopies, maxModes, maxModePorts, maxInvocations, maxUpdates, maxSwitches, maxWindows, maxPart, maxSchedule, maxUnits, maxCode, maxDelay, maxElapsed, maxRemaining, maxLeft}
+use Rattle.cells.specs.Refusals.{shapeRefused, fieldsRefused, taskPortsRefused, copiesRefused, modePortsRefused, invocationsRefused}
+use Rattle.cells.specs.Refusals.{updatesRefused, switchesRefused, unitsRefused, wholeRefused, codeRefused, windowsRefused, scheduleRefused}
+use Rattle.cells.specs.Refusals.{outsideRefused, lateRefused, timeRefused, overrunRefused, collisionRefused, faultyRefused}
+use Rattle.cells.specs.Refusals.{countRefused, stateRefused}
 use Rattle.rules.specs.Verdict.{programVerdict}
 use Rattle.code.specs.Op.{emit}
 use Rattle.code.specs.Compile.{listingOf}
@@ -23,6 +28,14 @@ most-rows = refl
 -- 9: 64 units; 11 and code lent to run: 4,096 instructions; 19: delays to 4,096; 21: elapsed, remaining, a task's remaining time
 most-else : maxUnits ∷ maxCode ∷ maxDelay ∷ maxElapsed ∷ maxRemaining ∷ maxLeft ∷ [] ≡ 64 ∷ 4096 ∷ 4096 ∷ 4096 ∷ 4096 ∷ 4096 ∷ []
 most-else = refl
+
+-- accepted, then the refusal numbers in the order of 01's table
+refusal-numbers :
+    acceptedNumber ∷ shapeRefused ∷ fieldsRefused ∷ taskPortsRefused ∷ copiesRefused ∷ modePortsRefused ∷ invocationsRefused
+    ∷ updatesRefused ∷ switchesRefused ∷ unitsRefused ∷ wholeRefused ∷ codeRefused ∷ windowsRefused ∷ scheduleRefused ∷ outsideRefused
+    ∷ lateRefused ∷ timeRefused ∷ overrunRefused ∷ collisionRefused ∷ faultyRefused ∷ countRefused ∷ stateRefused ∷ []
+    ≡ 0 ∷ 1 ∷ 2 ∷ 3 ∷ 4 ∷ 5 ∷ 6 ∷ 7 ∷ 8 ∷ 9 ∷ 10 ∷ 11 ∷ 12 ∷ 13 ∷ 14 ∷ 15 ∷ 16 ∷ 17 ∷ 18 ∷ 19 ∷ 20 ∷ 21 ∷ []
+refusal-numbers = refl
 
 -- F's ports: 0 sensor, 1 actuator, 2 task input, 3 task output, each with its first value 0; its drivers: guard kind 0 and three zeros
 F-ports : programF 6 2 .ports

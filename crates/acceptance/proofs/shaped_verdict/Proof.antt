@@ -5,10 +5,11 @@ use mathlib.Core.Path.{_≡_, refl, sym, ap, subst, _∙_}
 use native.Mathlib.Omega.{arith}
 use lib.IntN.{ℤ}
 use borrow.Author.Needs.{needs}
-use Rattle.theory.specs.Verdict.{orElse, after}
+use Rattle.theory.specs.Verdict.{acceptedNumber, orElse, after}
 use Rattle.theory.proofs.Conditions.{or-else-yes, or-else-no}
 use Rattle.theory.proofs.Search.{hit, miss}
 use Rattle.theory.proofs.Verdict.{after-given}
+use Rattle.cells.specs.Refusals.{windowsRefused}
 use Rattle.cells.proofs.Ints.{back}
 use Rattle.program.specs.Tables.{Tables, tables}
 use Rattle.rules.specs.Shape.{shapeBad}
@@ -35,12 +36,13 @@ told c =
     subst (λ (z : ℤ). c .lent-verdict .result ≡ lentVerdict (with-start s z)) (back (s .args .start) (s .fits .start .sfits)) (c .lent-verdict .ensures)
 
 -- none up to 11 was given: number 12 decides
-passed : (c : tie.Else1) → shapedVerdict (lent (c .before .before)) ≡ orElse (windowsBad (lent (c .before .before))) 12 0
+passed : (c : tie.Else1)
+    → shapedVerdict (lent (c .before .before)) ≡ orElse (windowsBad (lent (c .before .before))) windowsRefused acceptedNumber
 unfolding shapedVerdict
 passed c =
     let L = lent (c .before .before) in
-    let z : c .before .lent-verdict .result ≡ 0 = omega (arith, c .if1 .left) in
-    ap (λ (n : ℕ). after n (orElse (windowsBad L) 12 0)) (sym (told (c .before)) ∙ z)
+    let z : c .before .lent-verdict .result ≡ acceptedNumber = omega (arith, c .if1 .left) in
+    ap (λ (n : ℕ). after n (orElse (windowsBad L) windowsRefused acceptedNumber)) (sym (told (c .before)) ∙ z)
 
 lent-verdict-requires : tie.Need-lent-verdict-requires
 unfolding shapeBad
@@ -51,8 +53,8 @@ unfolding shapedVerdict
 returns c =
     let L = lent (c .before .before) in
     sym
-    (ap (λ (n : ℕ). after n (orElse (windowsBad L) 12 0)) (sym (told (c .before)))
-    ∙ after-given (c .before .lent-verdict .result) (orElse (windowsBad L) 12 0) (c .if1 .taken))
+    (ap (λ (n : ℕ). after n (orElse (windowsBad L) windowsRefused acceptedNumber)) (sym (told (c .before)))
+    ∙ after-given (c .before .lent-verdict .result) (orElse (windowsBad L) windowsRefused acceptedNumber) (c .if1 .taken))
 
 first-wrong-window-requires : tie.Need-first-wrong-window-requires
 first-wrong-window-requires c κs = search needs
@@ -63,7 +65,7 @@ returns-2 c =
     let L = lent (c .before .before .before .before) in
     sym
     (passed (c .before .before)
-    ∙ or-else-yes 12 0 (hit (windowWrong (L .tables) (L .windows)) (windowCount (L .windows)) _ (c .before .first-wrong-window .ensures (L .tables) refl) (c .if2 .taken)))
+    ∙ or-else-yes windowsRefused acceptedNumber (hit (windowWrong (L .tables) (L .windows)) (windowCount (L .windows)) _ (c .before .first-wrong-window .ensures (L .tables) refl) (c .if2 .taken)))
 
 returns-3 : tie.Need-returns-3
 unfolding windowsBad
@@ -71,7 +73,7 @@ returns-3 c =
     let L = lent (c .before .before .before .before) in
     sym
     (passed (c .before .before)
-    ∙ or-else-no 12 0 (miss (windowWrong (L .tables) (L .windows)) (windowCount (L .windows)) _ (c .before .first-wrong-window .ensures (L .tables) refl) (c .if2 .left)))
+    ∙ or-else-no windowsRefused acceptedNumber (miss (windowWrong (L .tables) (L .windows)) (windowCount (L .windows)) _ (c .before .first-wrong-window .ensures (L .tables) refl) (c .if2 .left)))
 
 pub shaped-verdict-spec : {M : Type 1} → statement M
 shaped-verdict-spec =

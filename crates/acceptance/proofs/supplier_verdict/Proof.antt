@@ -9,8 +9,10 @@ use mir.Val.{toZ, ofZ}
 use lib.IntN.{ℤ}
 use lib.ListN.{length}
 use borrow.Author.Needs.{needs}
+use Rattle.theory.specs.Verdict.{acceptedNumber}
 use Rattle.theory.proofs.Conditions.{or-else-yes, or-else-no}
 use Rattle.cells.specs.Cell.{indexOf}
+use Rattle.cells.specs.Refusals.{shapeRefused, scheduleRefused}
 use Rattle.cells.proofs.Ints.{back}
 use Rattle.program.specs.Tables.{Tables, tables, modeCount}
 use Rattle.program.proofs.Decoded.{sensors-rows}
@@ -68,10 +70,10 @@ told c =
     (c .shaped-verdict .ensures)
 
 -- it was 0: the program is accepted
-none : (c : tie.Else2) → shapedVerdict (windowedOf (lent (c .before .before .before .before .before))) ≡ 0
+none : (c : tie.Else2) → shapedVerdict (windowedOf (lent (c .before .before .before .before .before))) ≡ acceptedNumber
 none c = sym (told (c .before)) ∙ omega (arith, c .if2 .left)
 
-accepted : (c : tie.Else2) → (programVerdict (lent (c .before .before .before .before .before) .tables) ≡ 0)
+accepted : (c : tie.Else2) → (programVerdict (lent (c .before .before .before .before .before) .tables) ≡ acceptedNumber)
     × CodeFits (lent (c .before .before .before .before .before) .tables)
 accepted c =
     let s = c .before .before .before .before .before in
@@ -100,10 +102,10 @@ part-fits : (c : tie.Else3)
     ≡ false
 part-fits c = sym (part-told (c .before)) ∙ c .if3 .left
 
-part-passed : (c : tie.Else3) → partVerdict (lent (c .before .before .before .before .before .before .before .before)) ≡ 0
+part-passed : (c : tie.Else3) → partVerdict (lent (c .before .before .before .before .before .before .before .before)) ≡ acceptedNumber
 part-passed c =
     let e = c .before .before .before in
-    let L = lent (e .before .before .before .before .before) in part-own L (shaped (e .before .before) (L .tables .start)) (none e) ∙ or-else-no 13 0 (part-fits c)
+    let L = lent (e .before .before .before .before .before) in part-own L (shaped (e .before .before) (L .tables .start)) (none e) ∙ or-else-no scheduleRefused acceptedNumber (part-fits c)
 
 shape-bad-requires : tie.Need-shape-bad-requires
 shape-bad-requires c κs = search needs
@@ -117,7 +119,7 @@ refusal-requires c κs = search needs
 returns : tie.Need-returns
 returns c =
     let L = lent (c .before .before .before .before) in
-    c .refusal .ensures ∙ supplier-refused L 1 (part-one L (sym (shape-told (c .before .before) (L .tables .start)) ∙ c .before .if1 .taken)) (λ z. omega arith)
+    c .refusal .ensures ∙ supplier-refused L shapeRefused (part-one L (sym (shape-told (c .before .before) (L .tables .start)) ∙ c .before .if1 .taken)) (λ z. omega arith)
 
 shaped-verdict-requires : tie.Need-shaped-verdict-requires
 shaped-verdict-requires c κs = tables-shaped c (toZ w32 (ofZ w32 (c .before .before .before .args .start)))
@@ -151,8 +153,8 @@ returns-3 c =
     let e = c .before .before .before .before in
     let L = lent (e .before .before .before .before .before) in
     c .refusal3 .ensures
-    ∙ supplier-refused L 13
-    (part-own L (shaped (e .before .before) (L .tables .start)) (none e) ∙ or-else-yes 13 0 (sym (part-told (c .before .before)) ∙ c .before .if3 .taken))
+    ∙ supplier-refused L scheduleRefused
+    (part-own L (shaped (e .before .before) (L .tables .start)) (none e) ∙ or-else-yes scheduleRefused acceptedNumber (sym (part-told (c .before .before)) ∙ c .before .if3 .taken))
     (λ z. omega arith)
 
 sensors-requires : tie.Need-sensors-requires

@@ -5,6 +5,7 @@ use mir.Val.{toZ, ofZ}
 use lib.IntN.{ℤ}
 use borrow.Author.Needs.{needs}
 use Rattle.theory.proofs.Conditions.{or-else-yes, or-else-no}
+use Rattle.cells.specs.Refusals.{shapeRefused}
 use Rattle.cells.proofs.Ints.{back}
 use Rattle.program.specs.Tables.{Tables, tables}
 use Rattle.suppliers.specs.Windows.{Windowed}
@@ -30,7 +31,8 @@ returns : tie.Need-returns
 returns c =
     let s = c .before .before in
     let L = lent s in
-    sym (windows-number L ∙ or-else-yes 1 (shapedVerdict L) (sym (c .before .shape-bad .ensures (s .args .start)) ∙ c .if1 .taken))
+    sym (windows-number L
+    ∙ or-else-yes shapeRefused (shapedVerdict L) (sym (c .before .shape-bad .ensures (s .args .start)) ∙ c .if1 .taken))
 
 shaped-verdict-requires : tie.Need-shaped-verdict-requires
 shaped-verdict-requires c κs =
@@ -43,7 +45,7 @@ returns-2 c =
     let s = c .before .before .before in
     let L = lent s in
     subst (λ (z : ℤ). c .shaped-verdict .result ≡ shapedVerdict (windowed (with-start s z) (s .args .windows .now))) (back (s .args .start) (s .fits .start .sfits)) (c .shaped-verdict .ensures)
-    ∙ sym (windows-number L ∙ or-else-no 1 (shapedVerdict L) (sym (c .before .before .shape-bad .ensures (s .args .start)) ∙ c .before .if1 .left))
+    ∙ sym (windows-number L ∙ or-else-no shapeRefused (shapedVerdict L) (sym (c .before .before .shape-bad .ensures (s .args .start)) ∙ c .before .if1 .left))
 
 pub windows-verdict-spec : {M : Type 1} → statement M
 windows-verdict-spec =

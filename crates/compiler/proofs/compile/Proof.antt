@@ -4,6 +4,7 @@ use mathlib.Core.Path.{_≡_, refl, sym, ap, _∙_}
 use native.Mathlib.Omega.{arith}
 use lib.IntN.{ℤ}
 use borrow.Author.Needs.{needs}
+use Rattle.theory.specs.Verdict.{acceptedNumber}
 use Rattle.cells.specs.Cell.{nameOf, indexOf}
 use Rattle.cells.proofs.Ints.{back}
 use Rattle.program.specs.Tables.{Tables, tables}
@@ -32,7 +33,7 @@ told c =
     c .program-verdict .ensures ∙ ap (λ (z : ℤ). programVerdict (with-start s z)) (back (s .args .start) (s .fits .start .sfits))
 
 -- no number up to 10 was given
-passed : (c : tie.Else1) → programVerdict (lent (c .before .before .before)) ≡ 0
+passed : (c : tie.Else1) → programVerdict (lent (c .before .before .before)) ≡ acceptedNumber
 passed c = sym (told (c .before)) ∙ omega (arith, c .if1 .left)
 
 program-verdict-requires : tie.Need-program-verdict-requires

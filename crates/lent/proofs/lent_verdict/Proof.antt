@@ -6,9 +6,10 @@ use mathlib.Core.List.{[], _∷_}
 use native.Mathlib.Omega.{arith}
 use lib.IntN.{ℤ}
 use borrow.Author.Needs.{needs}
-use Rattle.theory.specs.Verdict.{orElse, verdict, after}
+use Rattle.theory.specs.Verdict.{acceptedNumber, orElse, verdict, after}
 use Rattle.theory.proofs.Conditions.{or-else-yes, or-else-no}
 use Rattle.theory.proofs.Verdict.{after-given, verdict-append}
+use Rattle.cells.specs.Refusals.{codeRefused}
 use Rattle.cells.proofs.Ints.{back}
 use Rattle.program.specs.Tables.{Tables, tables}
 use Rattle.rules.specs.Shape.{shapeBad}
@@ -38,16 +39,16 @@ told c =
     (c .table-verdict .ensures (s .pre))
 
 -- number 11 is asked after those up to 10
-in-order : (T : Tables) → lentVerdict T ≡ after (verdict tableRefusals T) (orElse (codeLong T) 11 0)
+in-order : (T : Tables) → lentVerdict T ≡ after (verdict tableRefusals T) (orElse (codeLong T) codeRefused acceptedNumber)
 unfolding lentVerdict
 in-order T = verdict-append tableRefusals (longRefusal ∷ []) T (omega arith)
 
 -- none up to 10 was given: number 11 decides
-passed : (c : tie.Else1) → lentVerdict (lent (c .before .before)) ≡ orElse (codeLong (lent (c .before .before))) 11 0
+passed : (c : tie.Else1) → lentVerdict (lent (c .before .before)) ≡ orElse (codeLong (lent (c .before .before))) codeRefused acceptedNumber
 passed c =
     let T = lent (c .before .before) in
-    let z : c .before .table-verdict .result ≡ 0 = omega (arith, c .if1 .left) in
-    in-order T ∙ ap (λ (n : ℕ). after n (orElse (codeLong T) 11 0)) (sym (told (c .before)) ∙ z)
+    let z : c .before .table-verdict .result ≡ acceptedNumber = omega (arith, c .if1 .left) in
+    in-order T ∙ ap (λ (n : ℕ). after n (orElse (codeLong T) codeRefused acceptedNumber)) (sym (told (c .before)) ∙ z)
 
 table-verdict-requires : tie.Need-table-verdict-requires
 table-verdict-requires c κs = search needs
@@ -57,7 +58,7 @@ returns c =
     let T = lent (c .before .before) in
     sym
     (in-order T
-    ∙ ap (λ (n : ℕ). after n (orElse (codeLong T) 11 0)) (sym (told (c .before)))
+    ∙ ap (λ (n : ℕ). after n (orElse (codeLong T) codeRefused acceptedNumber)) (sym (told (c .before)))
     ∙ after-given (c .before .table-verdict .result) _ (c .if1 .taken))
 
 code-long-requires : tie.Need-code-long-requires
@@ -69,12 +70,14 @@ code-long-requires c κs =
 returns-2 : tie.Need-returns-2
 returns-2 c =
     let T = lent (c .before .before .before .before) in
-    sym (passed (c .before .before) ∙ or-else-yes 11 0 (sym (c .before .code-long .ensures T refl refl refl refl refl) ∙ c .if2 .taken))
+    sym (passed (c .before .before)
+    ∙ or-else-yes codeRefused acceptedNumber (sym (c .before .code-long .ensures T refl refl refl refl refl) ∙ c .if2 .taken))
 
 returns-3 : tie.Need-returns-3
 returns-3 c =
     let T = lent (c .before .before .before .before) in
-    sym (passed (c .before .before) ∙ or-else-no 11 0 (sym (c .before .code-long .ensures T refl refl refl refl refl) ∙ c .if2 .left))
+    sym (passed (c .before .before)
+    ∙ or-else-no codeRefused acceptedNumber (sym (c .before .code-long .ensures T refl refl refl refl refl) ∙ c .if2 .left))
 
 pub lent-verdict-spec : {M : Type 1} → statement M
 lent-verdict-spec =

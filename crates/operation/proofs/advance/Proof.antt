@@ -4,6 +4,7 @@ use mathlib.Core.Path.{_≡_, refl, sym, subst, _∙_}
 use native.Mathlib.Omega.{arith}
 use lib.IntN.{ℤ}
 use borrow.Author.Needs.{needs}
+use Rattle.theory.specs.Verdict.{acceptedNumber}
 use Rattle.cells.proofs.Ints.{back}
 use Rattle.program.specs.Tables.{tables}
 use Rattle.machine.specs.Advance.{Advance, advanceVerdict}
@@ -31,7 +32,7 @@ told c =
     subst (λ (z : ℤ). c .number .result ≡ advanceVerdict (with-start s z)) (back (s .args .start) (s .fits .start .sfits)) (c .number .ensures)
 
 -- there is no number
-none : (c : tie.Else1) → advanceVerdict (asked (c .before .before .before)) ≡ 0
+none : (c : tie.Else1) → advanceVerdict (asked (c .before .before .before)) ≡ acceptedNumber
 none c = sym (told (c .before)) ∙ omega (arith, c .if1 .left)
 
 number-requires : tie.Need-number-requires

@@ -4,6 +4,7 @@ use mathlib.Core.Path.{_≡_, refl, sym, ap, subst, _∙_}
 use native.Mathlib.Omega.{arith}
 use lib.IntN.{ℤ}
 use borrow.Author.Needs.{needs}
+use Rattle.theory.specs.Verdict.{acceptedNumber}
 use Rattle.cells.proofs.Ints.{back}
 use Rattle.program.specs.Tables.{Tables, tables}
 use Rattle.rules.specs.Verdict.{programVerdict}
@@ -51,7 +52,8 @@ returns-2 : tie.Need-returns-2
 returns-2 c =
     let v = c .before .before .before in
     let T = lent (v .before) in
-    ap (λ (u : State). record { number = 0; state = u }) (c .begun2 .ensures ∙ ap stateOf (c .before .first-values .ensures T refl))
+    ap (λ (u : State). record { number = acceptedNumber; state = u })
+    (c .begun2 .ensures ∙ ap stateOf (c .before .first-values .ensures T refl))
     ∙ fresh-accepted T (sym (told v) ∙ omega (arith, c .before .before .if1 .left))
 
 pub fresh-spec : {M : Type 1} → statement M

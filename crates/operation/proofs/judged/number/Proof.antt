@@ -7,8 +7,9 @@ use mir.Syntax.{w32}
 use mir.Val.{toZ, ofZ}
 use lib.IntN.{ℤ}
 use borrow.Author.Needs.{needs}
-use Rattle.theory.specs.Verdict.{orElse}
+use Rattle.theory.specs.Verdict.{acceptedNumber, orElse}
 use Rattle.theory.proofs.Conditions.{or-else-yes, or-else-no}
+use Rattle.cells.specs.Refusals.{scheduleRefused, stateRefused}
 use Rattle.cells.proofs.Ints.{back}
 use Rattle.program.specs.Tables.{Tables, tables}
 use Rattle.rules.proofs.Shape.{shape-bars, ports-few}
@@ -50,12 +51,13 @@ told c =
 abbrev passed : tie.Else2 → Advance
 passed c = asked (c .before .before .before .before .before)
 
-none : (c : tie.Else2) → lentVerdict (passed c .tables) ≡ 0
+none : (c : tie.Else2) → lentVerdict (passed c .tables) ≡ acceptedNumber
 none c = sym (told (c .before)) ∙ omega (arith, c .if2 .left)
 
 -- then 13 and 21 decide
 decided : (c : tie.Else2)
-    → advanceVerdict (passed c) ≡ orElse (joinedBad (passed c .tables) (passed c .schedule)) 13 (orElse (stateBad (passed c)) 21 0)
+    → advanceVerdict (passed c)
+    ≡ orElse (joinedBad (passed c .tables) (passed c .schedule)) scheduleRefused (orElse (stateBad (passed c)) stateRefused acceptedNumber)
 decided c = advance-own (passed c) (shaped (c .before .before) (passed c .tables .start)) (none c)
 
 -- 13 as it was asked of an accepted program
@@ -66,8 +68,9 @@ joined-told c =
     c .refused .ensures .1 (L .tables) refl refl refl refl refl refl (a .0) (a .1)
 
 -- it did not apply: 21 decides
-left-over : (c : tie.Else3) → advanceVerdict (passed (c .before .before)) ≡ orElse (stateBad (passed (c .before .before))) 21 0
-left-over c = decided (c .before .before) ∙ or-else-no 13 _ (sym (joined-told (c .before)) ∙ c .if3 .left)
+left-over : (c : tie.Else3)
+    → advanceVerdict (passed (c .before .before)) ≡ orElse (stateBad (passed (c .before .before))) stateRefused acceptedNumber
+left-over c = decided (c .before .before) ∙ or-else-no scheduleRefused _ (sym (joined-told (c .before)) ∙ c .if3 .left)
 
 shape-bad-requires : tie.Need-shape-bad-requires
 shape-bad-requires c κs = search needs
@@ -93,16 +96,18 @@ refused-requires c κs =
     let h = advance-shaped (passed c) (shaped (c .before .before) (T .start)) in (few-rows T h, (few-modes T h, ports-few T (shape-bars T .ok h)))
 
 returns-3 : tie.Need-returns-3
-returns-3 c = sym (decided (c .before .before) ∙ or-else-yes 13 _ (sym (joined-told (c .before)) ∙ c .if3 .taken))
+returns-3 c = sym (decided (c .before .before) ∙ or-else-yes scheduleRefused _ (sym (joined-told (c .before)) ∙ c .if3 .taken))
 
 out-of-range-requires : tie.Need-out-of-range-requires
 out-of-range-requires c κs = search needs
 
 returns-4 : tie.Need-returns-4
-returns-4 c = sym (left-over (c .before .before) ∙ or-else-yes 21 0 (sym (c .before .out-of-range .ensures) ∙ c .if4 .taken))
+returns-4 c =
+    sym (left-over (c .before .before) ∙ or-else-yes stateRefused acceptedNumber (sym (c .before .out-of-range .ensures) ∙ c .if4 .taken))
 
 returns-5 : tie.Need-returns-5
-returns-5 c = sym (left-over (c .before .before) ∙ or-else-no 21 0 (sym (c .before .out-of-range .ensures) ∙ c .if4 .left))
+returns-5 c =
+    sym (left-over (c .before .before) ∙ or-else-no stateRefused acceptedNumber (sym (c .before .out-of-range .ensures) ∙ c .if4 .left))
 
 pub number-spec : {M : Type 1} → statement M
 number-spec =

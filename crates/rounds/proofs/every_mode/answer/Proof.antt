@@ -6,6 +6,7 @@ use mathlib.Core.List.{List, []}
 use native.Mathlib.Omega.{arith}
 use lib.IntN.{ℤ, pos}
 use borrow.Author.Needs.{needs}
+use Rattle.theory.specs.Verdict.{acceptedNumber}
 use Rattle.cells.specs.Cell.{rowsIn}
 use Rattle.cells.specs.Limits.{maxModes}
 use Rattle.program.specs.Tables.{Tables, tables, modeWidth, modeCount}
@@ -76,7 +77,7 @@ loop-again c =
     let a = c .before .before .before .before .before .args in
     let l = c .before .before .before .before .loop in
     let run = c .before .before .one-mode in
-    let none : run .result .number ≡ 0 = omega (arith, c .if1 .left) in
+    let none : run .result .number ≡ acceptedNumber = omega (arith, c .if1 .left) in
     let L = lent (a .tasks .now) (a .modes .now) (a .invocations .now) (a .updates .now) (a .switches .now) in
     let came = rounded-says (run .ensures L refl refl refl refl refl) .came none in (
       subst₂ (Come (a .part .now) (a .supplier)) (sym (came .0)) (sym (came .1))
