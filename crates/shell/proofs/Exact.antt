@@ -10,6 +10,7 @@ use borrow.Author.Tests.{le-ltb}
 use lib.ListN.{length, getD, replicate, length-replicate}
 use Rattle.text.specs.Decimal.{newline}
 use Rattle.text.specs.Part.{capped, partAfter, signedOf}
+use Rattle.cells.specs.Refusals.{shapeRefused}
 use Rattle.text.specs.Line.{room}
 use Rattle.text.specs.Shipped.{badInput, verdictLine, printed, shipped}
 use Rattle.intake.specs.Change.{startIntake}
@@ -128,6 +129,6 @@ unfolding tooManyPorts zeros afterRead fedOf lineEnd tookOf countedOf shapeAt is
 stops-there = refl
 
 -- and the answer is 1 whatever follows
-one-there : (more : List ℕ) → shipped (joined tooManyPorts ++ more) ≡ verdictLine 1
+one-there : (more : List ℕ) → shipped (joined tooManyPorts ++ more) ≡ verdictLine shapeRefused
 unfolding tooManyPorts zeros afterRead fedOf lineEnd tookOf countedOf shapeAt isDecided isComplete heard signedOf partAfter capped shipped
 one-there more = ap printed (sym (reads-exactly emptyRoom (zeros .roomy) (joined tooManyPorts ++ more)) ∙ sym (stopped-heard (fed startIntake emptyRoom) tooManyPorts more stops-there))

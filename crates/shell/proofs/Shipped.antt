@@ -6,6 +6,7 @@ use mathlib.Core.List.{List, _++_, append-nil}
 use mathlib.Core.Option.{Option}
 use lib.IntN.{ℤ}
 use lib.ListN.{replicate}
+use Rattle.theory.specs.Verdict.{acceptedNumber}
 use Rattle.cells.specs.Limits.{maxCode, wordsEach}
 use Rattle.program.specs.Tables.{Tables}
 use Rattle.code.specs.Op.{instructions}
@@ -24,14 +25,14 @@ compiled-text T rest = go (compileVerdict L) refl
     L : Compiling
     L = record { tables = T; slice = replicate (wordsEach * maxCode) 0 }
 
-    number : compileVerdict L ≡ 0 → compileAnswer L .number ≡ 0
+    number : compileVerdict L ≡ acceptedNumber → compileAnswer L .number ≡ acceptedNumber
     number e = rw (e, compileAnswer)
 
     go : (n : ℕ) → compileVerdict L ≡ n
         → verdictLine (compileAnswer L .number) ++ listingText (instructions (wordsOf L)) ≡ answered T (compileVerdict L)
     go zero e =
         (λ i. verdictLine (number e i) ++ listingText (instructions (words-are L e i)))
-        ∙ ap (λ l. verdictLine 0 ++ listingText l) (emit-instructions (listingOf T)) ∙ ap (answered T) (sym e)
+        ∙ ap (λ l. verdictLine acceptedNumber ++ listingText l) (emit-instructions (listingOf T)) ∙ ap (answered T) (sym e)
     go (suc n) e = rw (e, compileAnswer, compileSlice) (append-nil (verdictLine (suc n)))
 
 -- what is printed of what is answered is what the definition says, whatever was read

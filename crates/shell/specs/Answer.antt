@@ -4,6 +4,7 @@ use mathlib.Core.Bool.{true, false, cond}
 use mathlib.Core.List.{List, _++_}
 use lib.ListN.{take, replicate}
 use Rattle.cells.specs.Limits.{maxCode, wordsEach}
+use Rattle.cells.specs.Refusals.{shapeRefused}
 use Rattle.program.specs.Tables.{Tables}
 use Rattle.code.specs.Op.{instructions}
 use Rattle.code.specs.Compile.{Compiling, compileAnswer, compileSlice}
@@ -29,7 +30,7 @@ compiledOf T code =
 -- `bad input`; 1 for a count outside its limit; else what compiling says
 unfoldable pub answerOf : Read Tables → List ℕ → Answered
 answerOf bad code = answered (record { bad = true; number = 0; length = 0 }) code
-answerOf tooMany code = answered (record { bad = false; number = 1; length = 0 }) code
+answerOf tooMany code = answered (record { bad = false; number = shapeRefused; length = 0 }) code
 answerOf (got T rest) code = compiledOf T code
 
 -- the code that is lent to compiling: room for the longest listing, 0 at first

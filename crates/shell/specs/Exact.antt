@@ -8,6 +8,7 @@ use mathlib.Core.List.{List, [], _∷_, _++_, map}
 use lib.IntN.{ℤ, pos, negsuc}
 use lib.ListN.{length, take}
 use Rattle.theory.specs.Lists.{Every}
+use Rattle.cells.specs.Refusals.{shapeRefused}
 use Rattle.text.specs.Line.{room}
 use Rattle.text.specs.Shipped.{badInput, verdictLine, shipped}
 use Rattle.intake.specs.Heard.{heard}
@@ -86,5 +87,5 @@ StopsDecided =
 -- "1 at once": once the answer is 1 whatever follows, no read is asked for
 abbrev pub StopsAtOnce : Type 0
 StopsAtOnce =
-    (B : Buffers) (ps : List (List ℕ)) → ((more : List ℕ) → shipped (joined ps ++ more) ≡ verdictLine 1)
+    (B : Buffers) (ps : List (List ℕ)) → ((more : List ℕ) → shipped (joined ps ++ more) ≡ verdictLine shapeRefused)
     → heardBy B (pieces ps) .more ≡ false

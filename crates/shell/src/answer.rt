@@ -6,11 +6,12 @@ ghost use Rattle.code.specs.Compile.{compileAnswer, compileSlice};
 ghost use Rattle.compiler.specs.Listed.{compiling};
 ghost use Rattle.text.specs.Shipped.{printed};
 ghost use Rattle.shell.specs.Answer.{blank, answered, answerOf, textOfAnswer};
+use cells::refusals;
 use code::Compiled;
 use intake::state::Intake;
 use intake::tables::table;
 
-// `bad`, or the number of compiling and the listing's length.
+// `bad`, or the number of compiling and the listing's length; of a bad text these say nothing, and are 0.
 pub struct Shown {
     pub bad: bool,
     pub number: usize,
@@ -55,7 +56,7 @@ pub fn answer(i: Intake, room: &[i32], code: &mut [u32]) -> Shown
     if i.too_many {
         return Shown {
             bad: false,
-            number: 1,
+            number: refusals::SHAPE,
             length: 0,
         };
     }

@@ -3,7 +3,9 @@
 use Prim.Native.Nat.{ℕ, zero, suc, _*_}
 use mathlib.Core.List.{List, [], _∷_, _++_}
 use lib.ListN.{replicate}
+use Rattle.theory.specs.Verdict.{acceptedNumber}
 use Rattle.cells.specs.Limits.{maxCode, wordsEach}
+use Rattle.cells.specs.Refusals.{shapeRefused}
 use Rattle.program.specs.Tables.{Tables}
 use Rattle.code.specs.Compile.{listingOf, compileVerdict}
 use Rattle.text.specs.Decimal.{newline, decimal}
@@ -19,12 +21,12 @@ verdictLine n = decimal n ++ (newline ∷ [])
 
 -- compiled into a slice that holds the longest listing
 abbrev pub answered : Tables → ℕ → List ℕ
-answered T zero = verdictLine 0 ++ listingText (listingOf T)
+answered T zero = verdictLine acceptedNumber ++ listingText (listingOf T)
 answered T (suc n) = verdictLine (suc n)
 
 abbrev pub printed : Read Tables → List ℕ
 printed bad = badInput
-printed tooMany = verdictLine 1
+printed tooMany = verdictLine shapeRefused
 printed (got T rest) = answered T (compileVerdict (record { tables = T; slice = replicate (wordsEach * maxCode) 0 }))
 
 unfoldable pub shipped : List ℕ → List ℕ
