@@ -24,7 +24,8 @@ use Rattle.intake.proofs.Exact.{reads-exactly}
 use Rattle.shell.specs.Reading.{Brought, end, failure, pieceOf, brought, Hearing, afterRead}
 use Rattle.shell.specs.Answer.{answerOf}
 use Rattle.shell.specs.Writing.{openingOf, codeOf, pageOf, restOf, wroteOf, isWritten}
-use Rattle.shell.specs.Exact.{Buffers, Finished, pieces, joined, heardBy, answerTo, firstPage, Prints, BroughtExactly, PrintsExactly, FailsPlainly, StopsDecided, StopsAtOnce}
+use Rattle.shell.specs.Running.{heardIn, answerIn}
+use Rattle.shell.specs.Exact.{Buffers, Finished, pieces, joined, heardBy, answerTo, firstPage, Prints, RanWhole, BroughtExactly, PrintsExactly, FailsPlainly, StopsDecided, StopsAtOnce}
 use Rattle.shell.proofs.Shipped.{read-text}
 use Rattle.shell.proofs.Hearing.{brought-bytes, some-bytes, hears-one}
 use Rattle.shell.proofs.Handing.{first-pending, page-ready, taken-pending, taken-whole, writes-end}
@@ -43,6 +44,16 @@ prints B reads text e =
       whole = λ takes f. taken-whole a p takes ready f ∙ all;
       ends = λ takes each h. writes-end a p takes ready each (omega (arith, ap length all));
     }
+
+-- a run of the code
+pub ran-whole : RanWhole
+ran-whole tables left code buffer R =
+    let f = heardIn tables (R .reads) .fed in
+    let a = answerIn tables (R .reads) in
+    let w = R .prints .writes in
+    taken-whole a (pageOf a false 0 (R .bytes)) (w .takes) (page-ready a false 0 (R .bytes) (R .fits)) (ap isWritten (w .comes) ∙ R .prints .whole)
+    ∙ first-pending a 0 (R .bytes)
+    ∙ read-text (heard f)
 
 -- what a read has brought
 pub brought-exactly : BroughtExactly

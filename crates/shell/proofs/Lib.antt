@@ -3,6 +3,7 @@ pub mod Parts
 pub mod Shipped
 pub mod Hearing
 pub mod Handing
+pub mod Running
 pub mod Pieces
 pub mod AtOnce
 pub mod Exact

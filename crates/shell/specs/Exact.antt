@@ -10,12 +10,13 @@ use lib.ListN.{length, take}
 use Rattle.theory.specs.Lists.{Every}
 use Rattle.cells.specs.Refusals.{shapeRefused}
 use Rattle.text.specs.Line.{room}
-use Rattle.text.specs.Shipped.{badInput, verdictLine, shipped}
+use Rattle.text.specs.Shipped.{badInput, verdictLine, printed, shipped}
 use Rattle.intake.specs.Heard.{heard}
 use Rattle.intake.specs.Exact.{Roomy}
-use Rattle.shell.specs.Answer.{Answered, answerOf, blank}
-use Rattle.shell.specs.Reading.{Brought, piece, end, failure, brought, Hearing, hears, silent}
+use Rattle.shell.specs.Answer.{Answered}
+use Rattle.shell.specs.Reading.{Brought, piece, end, failure, brought, Hearing}
 use Rattle.shell.specs.Writing.{Spread, pageOf, leftOf, takenOf, pendingOf, isWritten}
+use Rattle.shell.specs.Running.{heardIn, answerIn, Ran}
 
 -- the buffers that the program works in: room for the largest program, and for any line
 pub record Buffers : Type 0 where
@@ -35,10 +36,10 @@ joined (p ∷ ps) = p ++ joined ps
 module _ (B : Buffers) (reads : List Brought) where
   -- what is known after these reads, what is answered to it, and the first page
   abbrev pub heardBy : Hearing
-  heardBy = hears (silent (B .tables)) reads
+  heardBy = heardIn (B .tables) reads
 
   abbrev pub answerTo : Answered
-  answerTo = answerOf (heard (heardBy .fed)) blank
+  answerTo = answerIn (B .tables) reads
 
   abbrev pub firstPage : Spread
   firstPage = pageOf answerTo false 0 (B .bytes)
@@ -59,6 +60,13 @@ module _ (B : Buffers) (reads : List Brought) where
     pub in-order : (takes : List ℕ) → handed takes ++ toCome takes ≡ text
     pub whole : (takes : List ℕ) → Finished takes → handed takes ≡ text
     pub ends : (takes : List ℕ) → Every (λ (n : ℕ). 1 ≤ n) takes → length text ≤ length takes → Finished takes
+
+-- a run that says that all was written has handed on the whole text of the answer to what it has heard
+abbrev pub RanWhole : Type 0
+RanWhole =
+    (tables left : List ℤ) (code buffer : List ℕ) (R : Ran tables left code buffer true)
+    → let a = answerIn tables (R .reads) in
+    takenOf a (pageOf a false 0 (R .bytes)) (R .prints .writes .takes) ≡ printed (heard (heardIn tables (R .reads) .fed))
 
 -- what a read has brought, by its answer: below 0 it has failed, 0 is the end of the input, else so many bytes of the buffer came
 pub record ReadSays (buffer : List ℕ) : Type 0 where

@@ -2,4 +2,5 @@
 pub mod Answer
 pub mod Reading
 pub mod Writing
+pub mod Running
 pub mod Exact

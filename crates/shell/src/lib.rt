@@ -5,12 +5,30 @@ mod pages;
 mod printing;
 mod reading;
 
-// Nothing is printed before all of it is decided. Whether all of it was written.
+ghost use Prim.Native.Nat.{_≤_};
+ghost use mathlib.Core.Path.{_≡_};
+ghost use lib.ListN.{length};
+ghost use Rattle.text.specs.Line.{room};
+ghost use Rattle.intake.specs.Exact.{Roomy};
+ghost use Rattle.shell.specs.Answer.{blank};
+ghost use Rattle.shell.specs.Running.{Ran};
+
+// In lent memory. Nothing is printed before all of it is decided.
+fn ran(input: i32, output: i32, tables: &mut [i32], code: &mut [u32], buffer: &mut [u8]) -> bool
+    requires { ⌜ Roomy (now tables) ⌝ }
+    requires { ⌜ now code ≡ blank ⌝ }
+    requires { ⌜ room ≤ length (now buffer) ⌝ }
+    ensures { λ r. ⌜ Ran (now (tables .entry)) (now (tables .exit)) (now (code .exit)) (now (buffer .exit)) r ⌝ }
+{
+    let heard = reading::heard(input, buffer, tables);
+    let shown = answer::answer(heard, tables, code);
+    printing::print(output, shown, code, buffer)
+}
+
+// In memory of its own. Whether all of it was written.
 pub fn run(input: i32, output: i32) -> bool {
-    let mut room = intake::shape::empty_room();
+    let mut tables = intake::shape::empty_room();
     let mut code = memory::blank_code();
     let mut buffer = memory::empty_buffer();
-    let heard = reading::heard(input, &mut buffer, &mut room);
-    let shown = answer::answer(heard, &room, &mut code);
-    printing::print(output, shown, &code, &mut buffer)
+    ran(input, output, &mut tables, &mut code, &mut buffer)
 }
