@@ -1,11 +1,11 @@
 -- A part of a list that is cut to what there is: the same as the part itself. Assumes nothing.
-use Prim.Native.Nat.{ℕ, _+_, _-_, _≤_, min}
+use Prim.Native.Nat.{ℕ, zero, suc, _+_, _-_, _≤_, min}
 use mathlib.Core.Path.{_≡_, sym, ap, _∙_}
-use mathlib.Core.List.{List}
+use mathlib.Core.List.{List, [], _∷_}
 use native.Mathlib.Decide.{decLe}
 use native.Mathlib.Omega.{arith}
-use lib.ListN.{length, take, drop, length-drop, drop-of-length-le}
-use lib.Seq.{take-all}
+use lib.ListN.{length, take, drop, length-take, length-drop, drop-of-length-le}
+use lib.Seq.{take-all, take-nil}
 
 module _ {A : Type 0} where
   -- what follows a place, cut to what there is
@@ -31,3 +31,19 @@ module _ {A : Type 0} where
   part-is at n from k l e f =
       let g : from + k - from ≡ min n (length (drop from l)) = simp length-drop (omega arith) in
       ap (λ (j : ℕ). take j (drop from l)) g ∙ take-least n (drop from l) ∙ ap (take n) (ap (λ (j : ℕ). drop j l) e ∙ drop-least at l)
+
+  -- what is left of the first elements is the first of what is left
+  drop-take : (from len : ℕ) (l : List A) → drop from (take len l) ≡ take (len - from) (drop from l)
+  drop-take zero len l = let z : len ≡ len - 0 = omega arith in ap (λ (n : ℕ). take n l) z
+  drop-take (suc from) zero l = let z : 0 ≡ 0 - suc from = omega arith in ap (λ (n : ℕ). take n (drop (suc from) l)) z
+  drop-take (suc from) (suc len) [] = sym (take-nil (suc len - suc from))
+  drop-take (suc from) (suc len) (x ∷ xs) =
+      let z : len - from ≡ suc len - suc from = omega arith in drop-take from len xs ∙ ap (λ (n : ℕ). take n (drop from xs)) z
+
+  -- the part from one place up to another, both cut to what there is
+  pub between-is : (from len f e : ℕ) (l : List A) → e ≡ min len (length l) → f ≡ min from e
+      → take (e - f) (drop f l) ≡ drop from (take len l)
+  between-is from len f e l h g =
+      let cut : take e l ≡ take len l = ap (λ (n : ℕ). take n l) h ∙ take-least len l in
+      let place : f ≡ min from (length (take len l)) = g ∙ ap (min from) (h ∙ sym (length-take len l)) in
+      sym (drop-take f e l) ∙ (λ j. drop (place j) (cut j)) ∙ drop-least from (take len l)

@@ -1,7 +1,7 @@
 -- A text that is not decided may still become bad: a line that is no number makes it so. Assumes nothing.
 use Prim.Native.Nat.{ℕ}
-use mathlib.Core.Path.{_≡_, refl, ap, _∙_}
-use mathlib.Core.Bool.{Bool, true, false, not, cond, _&&_}
+use mathlib.Core.Path.{_≡_, ap, _∙_}
+use mathlib.Core.Bool.{Bool, true, false, cond, and-false}
 use mathlib.Core.List.{List, [], _∷_}
 use mathlib.Core.Option.{none}
 use Rattle.theory.proofs.Bools.{neither}
@@ -17,14 +17,12 @@ use Rattle.intake.specs.Line.{Fed, fed, isDecided, isComplete, tookOf}
 use Rattle.intake.specs.Bytes.{atPart, lineEnd, fedOf, fedAll, endedOf}
 use Rattle.intake.specs.Heard.{heard}
 
--- a byte that no number has, and the rest of a line with it
-abbrev pub noNumber : List ℕ
-noNumber = 120 ∷ newline ∷ []
+-- a byte that no number has, x in ASCII, and the rest of a line with it
+abbrev letter : ℕ
+letter = 120
 
--- no test passes with one that fails
-and-false : (b : Bool) → (b && false) ≡ false
-and-false true = refl
-and-false false = refl
+abbrev pub noNumber : List ℕ
+noNumber = letter ∷ newline ∷ []
 
 -- a text that a failure leaves bad is heard as bad, where no count was out of its limit
 pub heard-bad : (f : Fed) → isDecided (f .intake) ≡ false → heard (fed (asBad (f .intake)) (f .room)) ≡ bad
@@ -36,7 +34,7 @@ module _ (f : Fed) (d : isDecided (f .intake) ≡ false) where
   spoilt : Part
   spoilt = withBad (f .intake .part)
 
-  spoils : fedOf f 120 ≡ atPart f spoilt
+  spoils : fedOf f letter ≡ atPart f spoilt
   unfolding fedOf partAfter spoilt
   spoils = let p = f .intake .part in ap (λ (b : Bool). atPart f (cond b (withMinus p) (withBad p))) (and-false (isStart p))
 

@@ -7,7 +7,7 @@ use mathlib.Core.List.{List, [], _∷_, _++_}
 use native.Mathlib.Omega.{arith}
 use lib.IntN.{pos}
 use borrow.Author.Tests.{le-ltb}
-use lib.ListN.{length, getD, replicate, length-replicate}
+use lib.ListN.{length, drop, getD, replicate, length-replicate}
 use Rattle.text.specs.Decimal.{newline}
 use Rattle.text.specs.Part.{capped, partAfter, signedOf}
 use Rattle.cells.specs.Refusals.{shapeRefused}
@@ -22,9 +22,9 @@ use Rattle.intake.specs.Exact.{emptyRoom}
 use Rattle.intake.proofs.Cut.{cut-anywhere}
 use Rattle.intake.proofs.Exact.{reads-exactly}
 use Rattle.shell.specs.Reading.{Brought, end, failure, pieceOf, brought, Hearing, afterRead}
-use Rattle.shell.specs.Answer.{answerOf}
-use Rattle.shell.specs.Writing.{openingOf, codeOf, pageOf, restOf, wroteOf, isWritten}
-use Rattle.shell.specs.Running.{heardIn, answerIn}
+use Rattle.shell.specs.Answer.{answerOf, blank}
+use Rattle.shell.specs.Writing.{bufferSize, emptyBuffer, openingOf, codeOf, pageOf, restOf, wroteOf, isWritten}
+use Rattle.shell.specs.Running.{heardIn, answerIn, Ran}
 use Rattle.shell.specs.Exact.{Buffers, Finished, pieces, joined, heardBy, answerTo, firstPage, Prints, RanWhole, BroughtExactly, PrintsExactly, FailsPlainly, StopsDecided, StopsAtOnce}
 use Rattle.shell.proofs.Shipped.{read-text}
 use Rattle.shell.proofs.Hearing.{brought-bytes, some-bytes, hears-one}
@@ -126,6 +126,25 @@ zeros =
 ten-bytes : Finished zeros (end ∷ []) (4 ∷ 5 ∷ 1 ∷ [])
 unfolding zeros afterRead endedOf heard isComplete answerOf codeOf pageOf openingOf wroteOf restOf isWritten
 ten-bytes = refl
+
+-- that, as a run of the code: the input has ended, the tables and the code are as they were, `bad input` stands in the buffer
+nothing-ran : Ran emptyRoom emptyRoom blank (badInput ++ drop (length badInput) emptyBuffer) true
+unfolding afterRead endedOf heard isComplete answerOf codeOf pageOf openingOf wroteOf restOf isWritten
+nothing-ran =
+    record {
+      reads = end ∷ [];
+      over = refl;
+      filled = refl;
+      listed = refl;
+      bytes = emptyBuffer;
+      fits = omega (arith, length-replicate {A = ℕ} bufferSize 0);
+      prints =
+          record {
+            sheet = record { from = 0; len = 0; next = 0 };
+            writes = record { takes = length badInput ∷ []; comes = refl };
+            whole = refl;
+          };
+    }
 
 -- before its first byte a text is read on
 reads-on : heardBy zeros (pieces []) .more ≡ true

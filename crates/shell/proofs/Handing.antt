@@ -25,7 +25,6 @@ use Rattle.text.proofs.PageEnd.{Ends, page-ends, page-goes, lines-some, lines-c
 use Rattle.shell.specs.Answer.{Answered, answered, textOfAnswer}
 use Rattle.shell.specs.declared.answer.Shown.{Shown}
 use Rattle.shell.specs.Writing.{openingOf, codeOf, opsOf, Spread, spread, laid, pageOf, restOf, onward, wroteOf, leftOf, takenOf, pendingOf, isWritten, AfterWrites}
-use Rattle.shell.proofs.Parts.{no-length}
 
 -- a page that was just laid has its whole text to hand on
 laid-rest : (text : List ℕ) (next : ℕ) (buffer : List ℕ) → restOf (laid text next buffer) ≡ text
@@ -190,7 +189,7 @@ none-pending : (a : Answered) (p : Spread) → Ready a p → isWritten p ≡ tru
 unfolding isWritten
 none-pending a p r e =
     let z : length (restOf p) ≡ 0 = eqb-true (length (restOf p)) 0 e in
-    ap (λ (l : List ℕ). l ++ linesFrom (p .sheet .next) (drop (p .sheet .next) (opsOf a))) (no-length (restOf p) z)
+    ap (λ (l : List ℕ). l ++ linesFrom (p .sheet .next) (drop (p .sheet .next) (opsOf a))) (drop-of-length-le (restOf p) {i = 0} (omega arith))
     ∙ ap (linesFrom (p .sheet .next)) (drop-of-length-le (opsOf a) {i = p .sheet .next} (r .last z))
 
 -- then all was taken

@@ -1,5 +1,4 @@
 -- What is printed is what document 01 says.
-pub mod Parts
 pub mod Shipped
 pub mod Hearing
 pub mod Handing

@@ -42,7 +42,7 @@ module _ (os : List Op) (size from next len : ℕ) (p : Paged os size from next 
       ∙ p
 
 -- no line
-lines-none : (os : List Op) (from : ℕ) → linesOf os from from ≡ []
+pub lines-none : (os : List Op) (from : ℕ) → linesOf os from from ≡ []
 lines-none os from = ap (linesFrom from) (slice-empty from os)
 
 -- an empty page

@@ -8,15 +8,16 @@ use native.Mathlib.Decide.{decLe}
 use native.Mathlib.Numerals.{add-one}
 use native.Mathlib.Omega.{arith}
 use lib.Dec.{ltb}
-use lib.ListN.{length, getD, take, drop, length-append, length-take, drop-of-length-le, take-append-drop}
-use lib.Seq.{slice, slice-empty, length-slice, length-take-le, take-all, drop-append-le, drop-cons}
+use lib.ListN.{length, getD, take, drop, length-append, length-take, drop-of-length-le}
+use lib.Seq.{take-all, take-length, drop-cons}
 use borrow.Author.Tests.{ltb-false, le-ltb}
 use Rattle.code.specs.Op.{Op, faulty}
 use Rattle.text.specs.Decimal.{space, newline, decimal}
 use Rattle.text.specs.Listing.{mnemonic, arguments, spaced, lineOf, linesFrom}
 use Rattle.text.specs.Line.{room}
 use Rattle.text.specs.Page.{linesOf, pageEnd}
-use Rattle.text.proofs.Pages.{lines-append, lines-more}
+use Rattle.text.proofs.Pages.{lines-more, pages-join}
+use Rattle.text.proofs.Filling.{lines-none}
 use Rattle.text.proofs.Said.{line-few}
 
 -- where a page ends that began at an instruction and has come to another
@@ -49,13 +50,9 @@ page-from (suc left) os size from next len e f l h =
         let m = more (ltb-false (size - len) room b) in
         record { onward = omega (arith, m .onward); fits = m .fits }
 
--- no line
-none : (os : List Op) (from : ℕ) → length (linesOf os from from) ≡ 0
-none os from = ap length (ap (linesFrom from) (slice-empty from os))
-
 -- a page that begins at an instruction
 pub page-ends : (os : List Op) (size from : ℕ) → Ends os size from from (pageEnd (length os - from) os size from 0)
-page-ends os size from = page-from (length os - from) os size from from 0 refl (omega arith) (sym (none os from)) (omega arith)
+page-ends os size from = page-from (length os - from) os size from from 0 refl (omega arith) (sym (ap length (lines-none os from))) (omega arith)
 
 -- it has a line at least
 pub page-goes : (os : List Op) (size from : ℕ) → from < length os → room ≤ size → from < pageEnd (length os - from) os size from 0
@@ -67,7 +64,7 @@ page-goes os size from h r = go (length os - from) refl
     one : length (lineOf from o) ≡ length (linesOf os from (from + 1))
     one =
         omega
-        (arith, ap length (lines-more os from from (omega arith) h), length-append (linesOf os from from) (lineOf from o), none os from, ap (λ (n : ℕ). length (linesOf os from n)) (add-one from))
+        (arith, ap length (lines-more os from from (omega arith) h), length-append (linesOf os from from) (lineOf from o), ap length (lines-none os from), ap (λ (n : ℕ). length (linesOf os from n)) (add-one from))
 
     go : (left : ℕ) → left ≡ length os - from → from < pageEnd left os size from 0
     go zero e = absurd (omega arith)
@@ -93,17 +90,15 @@ lines-some os from to f h =
 pub lines-cut : (os : List Op) (from to : ℕ) → from ≤ to → linesFrom from (drop from os) ≡ linesOf os from to ++ linesFrom to (drop to os)
 lines-cut os from to f = go (decLe to (length os))
   where
-    last : List ℕ
-    last = linesFrom to (drop to os)
+    -- all lines from an instruction on
+    whole : (k : ℕ) → linesOf os k (length os) ≡ linesFrom k (drop k os)
+    whole k = ap (λ (l : List Op). linesFrom k (drop k l)) (take-length os)
 
-    go : Dec (to ≤ length os) → linesFrom from (drop from os) ≡ linesOf os from to ++ last
+    go : Dec (to ≤ length os) → linesFrom from (drop from os) ≡ linesOf os from to ++ linesFrom to (drop to os)
     go (yes h) =
-        let l : from ≤ length (take to os) = omega (arith, length-take-le to os h) in
-        let e : from + length (slice from to os) ≡ to = omega (arith, length-slice from to os h) in
-        ap (λ (l : List Op). linesFrom from (drop from l)) (sym (take-append-drop to os))
-        ∙ ap (linesFrom from) (drop-append-le from (take to os) (drop to os) l)
-        ∙ lines-append from (slice from to os) (drop to os)
-        ∙ ap (λ (a : ℕ). linesOf os from to ++ linesFrom a (drop to os)) e
+        sym (whole from)
+        ∙ sym (pages-join os from to (length os) f h (omega arith))
+        ∙ ap (λ (l : List ℕ). linesOf os from to ++ l) (whole to)
     go (no h) =
         let none : drop to os ≡ [] = drop-of-length-le os {i = to} (omega arith) in
         ap (λ (l : List Op). linesFrom from (drop from l)) (sym (take-all to os (omega arith)))

@@ -1,7 +1,7 @@
 -- `shell::pages::rest` meets its contract: both ends are cut to what there is. Assumes nothing.
 use borrow.Author.Needs.{needs}
 use Rattle.shell.specs.Writing.{restOf}
-use Rattle.shell.proofs.Parts.{between-is}
+use Rattle.cells.proofs.Held.{between-is}
 use Rattle.shell.proofs.pages.rest.Statement.{statement}
 use Rattle.shell.proofs.pages.rest.Tie as tie
 
