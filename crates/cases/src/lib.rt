@@ -5,4 +5,3 @@ pub mod room;
 pub mod states;
 pub mod stream;
 pub mod tables;
-pub mod words;

@@ -71,10 +71,8 @@ pub const SWITCHES_AT: usize = UPDATES_AT + UPDATES;
 // The whole.
 pub const ALL: usize = SWITCHES_AT + SWITCHES;
 
-// So many tables; each ends where the next begins.
-pub const TABLES: usize = 10;
-
-pub const ENDS: [usize; TABLES] = [
+// Each ends where the next begins.
+pub const ENDS: [usize; Program::TABLES] = [
     TASKS_AT,
     TASK_PORTS_AT,
     DRIVERS_AT,

@@ -2,7 +2,11 @@
 -- Assumes nothing.
 use Prim.Native.Nat.{ℕ}
 
--- most rows of each table
+-- so many tables a program has
+abbrev pub tableCount : ℕ
+tableCount = 10
+
+-- most rows of each
 abbrev pub maxPorts : ℕ
 maxPorts = 64
 

@@ -7,3 +7,4 @@ pub mod parts;
 pub mod reading;
 pub mod refusals;
 pub mod table;
+pub mod tables;

@@ -1,10 +1,14 @@
 // The limits of document 01, as constants of the program's type.
 
-// A program: its tables are lent, its start mode is the number beside them.
-pub struct Program(pub i32);
+// A program: its tables are lent beside it, its start mode travels in it.
+pub struct Program {
+    pub start: i32,
+}
 
 impl Program {
-    // Most rows of each table.
+    // So many tables, lent as one value; `tables` says which stands where.
+    pub const TABLES: usize = 10;
+    // Most rows of each.
     pub const PORTS: usize = 64;
 
     pub const TASKS: usize = 32;

@@ -5,7 +5,8 @@ use mathlib.Core.List.{List, [], _∷_, _++_, map}
 use lib.ListN.{length}
 use Rattle.theory.specs.Lists.{cat, sum}
 use Rattle.cells.specs.Limits.{firstOutputCall, firstSensorCall}
-use Rattle.program.specs.Program.{Program, Mode, Invocation, Update, Switch, mode, ticksOf, nextUnit, enteredUnit, dueInvocations, dueUpdates, dueSwitches, dueTasks}
+use Rattle.program.specs.Program.{Program, Mode, Invocation, Update, Switch, mode, ticksOf, nextUnit, enteredUnit, dueInvocations}
+use Rattle.program.specs.Program.{dueUpdates, dueSwitches, dueTasks}
 use Rattle.code.specs.Op.{Op, call, schedule, branch, jump, future, return}
 
 -- the three ranges of call numbers: a declared driver, the output copy of a task, the reading of a sensor

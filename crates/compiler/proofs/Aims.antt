@@ -1,5 +1,5 @@
 -- The numbers in a block, and where the blocks of a round stand: they fit words where the tables are within document 01's limits.
--- Assumes that the tables are within theirs (`Within`), and that the block or the round begins early enough.
+-- Assumes that number 1 passes the tables, and that the block or the round begins early enough.
 use Prim.Native.Nat.{ℕ, suc, _+_, _*_, _≤_, _<_}
 use mathlib.Core.Path.{_≡_, sym, ap, _∙_}
 use mathlib.Core.Bool.{Bool, true, false}
@@ -13,11 +13,13 @@ use borrow.Author.Tests.{eq-eqb, ne-eqb}
 use Rattle.theory.proofs.Lists.{sum-most}
 use Rattle.cells.specs.Cell.{greatestWord}
 use Rattle.cells.specs.Limits.{maxUnits}
+use Rattle.program.specs.Tables.{Tables}
+use Rattle.rules.specs.Shape.{shapeBad}
 use Rattle.layout.specs.declared.counts.Counts.{Counts}
 use Rattle.layout.specs.Counts.{sizeOf, mostBlock, mostMode}
 use Rattle.layout.specs.Few.{Sized}
 use Rattle.layout.proofs.Limits.{block-most}
-use Rattle.compiler.specs.Block.{Lent, Within, Aimed, countsAt, unitOf, nextIn, aimIn, blockIn, blockStart}
+use Rattle.compiler.specs.Block.{Aimed, countsAt, unitOf, nextIn, aimIn, blockIn, blockStart}
 use Rattle.compiler.specs.declared.rounds.Round.{Round}
 use Rattle.compiler.proofs.Parts.{sized, parts-count}
 
@@ -48,16 +50,16 @@ aimed round k at due t f l s =
       next = next-most round k (at + sizeOf due) greatestWord f (omega (arith, block-most due s));
     }
 
-module _ (L : Lent) (entries : List ℕ) (round : Round) where
+module _ (T : Tables) (round : Round) where
   -- a block is as long as its size says, wherever it stands
-  pub block-length : (k at : ℕ) → length (blockIn L entries round k at) ≡ sizeOf (countsAt L (unitOf round k))
-  block-length k at = parts-count L entries (unitOf round k) (aimIn round k at (countsAt L (unitOf round k)))
+  pub block-length : (entries : List ℕ) (k at : ℕ) → length (blockIn T entries round k at) ≡ sizeOf (countsAt T (unitOf round k))
+  block-length entries k at = parts-count T (unitOf round k) entries (aimIn round k at (countsAt T (unitOf round k)))
 
   -- no block begins later than the most before it
-  pub start-most : Within L → (k : ℕ) → blockStart L round k ≤ round .first + k * mostBlock
-  start-most w k =
-      omega (arith, sum-most (λ j. sizeOf (countsAt L (unitOf round j))) mostBlock k (λ j l. block-most _ (sized L entries (unitOf round j) w)))
+  start-most : shapeBad T ≡ false → (k : ℕ) → blockStart T round k ≤ round .first + k * mostBlock
+  start-most e k =
+      omega (arith, sum-most (λ j. sizeOf (countsAt T (unitOf round j))) mostBlock k (λ j l. block-most _ (sized T (unitOf round j) e)))
 
   -- so each block of a round ends before the mode's most
-  pub start-before : Within L → (k : ℕ) → k < suc maxUnits → blockStart L round k + mostBlock ≤ round .first + mostMode
-  start-before w k l = omega (arith, start-most w k, mul-le-mul-right {m = suc k} {n = suc maxUnits} mostBlock l)
+  pub start-before : shapeBad T ≡ false → (k : ℕ) → k < suc maxUnits → blockStart T round k + mostBlock ≤ round .first + mostMode
+  start-before e k l = omega (arith, start-most e k, mul-le-mul-right {m = suc k} {n = suc maxUnits} mostBlock l)

@@ -26,7 +26,7 @@ use Rattle.layout.proofs.Laid.{counts-mode, start-mode}
 use Rattle.compiler.specs.Written.{Words, three}
 use Rattle.compiler.specs.Switches.{switchesIn, stubsIn}
 use Rattle.compiler.specs.Block.{countsAt, nextIn, blockIn, blockStart}
-use Rattle.compiler.specs.Modes.{lentOf, roundOf, modeIn, modeStart, allIn}
+use Rattle.compiler.specs.Modes.{roundOf, modeIn, modeStart, allIn}
 use Rattle.compiler.proofs.Pieces.{when, head-same, body-same, switches-same, stubs-same}
 
 -- the images of pieces are the pieces of the images
@@ -58,24 +58,24 @@ module _ (T : Tables) where
 
   module _ (m : ℕ) (l : m < modeCount T) where
     -- what is counted in the tables is what is due in the mode
-    counted : (k : ℕ) → countsAt (lentOf T) (when T m k) ≡ countsOf P (mode P m) k
+    counted : (k : ℕ) → countsAt T (when T m k) ≡ countsOf P (mode P m) k
     counted k = counts-mode T read read-all m k l
 
     module _ (first : ℕ) (e : first ≡ modeAddress P m) (k : ℕ) where
       -- and a block stands where it does in the listing
-      block-start : blockStart (lentOf T) (roundOf T m first) k ≡ blockAddress P m k
+      block-start : blockStart T (roundOf T m first) k ≡ blockAddress P m k
       block-start = ap₂ (λ a b. a + b) e (sum-same _ (blockSize P (mode P m)) k (λ j b. ap sizeOf (counted j)))
 
       module _ (at : ℕ) (b : at ≡ blockAddress P m k) where
         -- its stubs stand behind its `future` and `return`
-        stub-same : at + beforeFuture (countsAt (lentOf T) (when T m k)) + 2 ≡ 2 + futureAddress P m k
+        stub-same : at + beforeFuture (countsAt T (when T m k)) + 2 ≡ 2 + futureAddress P m k
         stub-same = omega (arith, b, ap beforeFuture (counted k), future-counted P m k)
 
         -- the next block is that of the next unit
-        next-same : nextIn (roundOf T m first) k (at + sizeOf (countsAt (lentOf T) (when T m k))) ≡ blockAddress P m (nextUnit (mode P m) k)
+        next-same : nextIn (roundOf T m first) k (at + sizeOf (countsAt T (when T m k))) ≡ blockAddress P m (nextUnit (mode P m) k)
         next-same = go (eqb (suc k) (units T m)) ∙ ap (λ (M : Mode). blockAddress P m (nextUnit M k)) (sym (mode-row T m l))
           where
-            go : (t : Bool) → elim t as (λ t. ℕ) [ true ↦ first | false ↦ at + sizeOf (countsAt (lentOf T) (when T m k)) ]
+            go : (t : Bool) → elim t as (λ t. ℕ) [ true ↦ first | false ↦ at + sizeOf (countsAt T (when T m k)) ]
                 ≡ blockAddress P m (elim t as (λ t. ℕ) [ true ↦ 0 | false ↦ suc k ])
             go true = omega (arith, e)
             go false = omega (arith, b, ap sizeOf (counted k))
@@ -94,7 +94,7 @@ module _ (T : Tables) where
       due-same k = switches-same T m k ∙ ap (λ (M : Mode). dueSwitches M k) (sym (mode-row T m l))
 
       -- a block is that of the listing
-      block-same : (k at : ℕ) → at ≡ blockAddress P m k → blockIn (lentOf T) entries (roundOf T m first) k at ≡ map three (blockCode P m k)
+      block-same : (k at : ℕ) → at ≡ blockAddress P m k → blockIn T entries (roundOf T m first) k at ≡ map three (blockCode P m k)
       block-same k at b =
           five (headOf P (mode P m) k) (testsOf (dueSwitches (mode P m) k) (2 + futureAddress P m k)) (bodyOf (mode P m) k) (endOf P m k) (stubsOf P k (dueSwitches (mode P m) k))
           (head-same T m k ∙ ap (λ (M : Mode). map three (headOf P M k)) (sym (mode-row T m l)))

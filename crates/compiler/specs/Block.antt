@@ -7,15 +7,14 @@ use lib.Dec.{eqb}
 use lib.IntN.{ℤ}
 use lib.ListN.{length}
 use Rattle.theory.specs.Lists.{cat, sum}
-use Rattle.cells.specs.Cell.{rowsIn, greatestWord}
-use Rattle.cells.specs.Limits.{maxPorts, maxSwitches, firstOutputCall}
-use Rattle.program.specs.Tables.{portWidth, invocationWidth, invocationTask, invocationDriver, updateWidth, updateDriver}
+use Rattle.cells.specs.Cell.{greatestWord}
+use Rattle.cells.specs.Limits.{maxSwitches, firstOutputCall}
+use Rattle.program.specs.Tables.{Tables, invocationWidth, invocationTask, invocationDriver, updateWidth, updateDriver}
 use Rattle.program.specs.Sets.{sensorRows}
 use Rattle.code.specs.Op.{future, return, callNumber, scheduleNumber}
 use Rattle.code.specs.Listing.{testsOf}
 use Rattle.layout.specs.declared.counts.Counts.{Counts}
 use Rattle.layout.specs.Counts.{countsIn, beforeFuture, sizeOf}
-use Rattle.layout.specs.Few.{Few}
 use Rattle.compiler.specs.Written.{Words, three}
 use Rattle.compiler.specs.Rows.{reading, formRows}
 use Rattle.compiler.specs.Switches.{switchesIn, stubsIn}
@@ -23,21 +22,6 @@ use Rattle.compiler.specs.declared.rows.Form.{Form}
 use Rattle.compiler.specs.declared.rows.Instant.{Instant}
 use Rattle.compiler.specs.declared.blocks.Aim.{Aim}
 use Rattle.compiler.specs.declared.rounds.Round.{Round}
-
--- the tables of which blocks are written
-pub record Lent : Type 0 where
-  pub ports : List ℤ
-  pub invocations : List ℤ
-  pub updates : List ℤ
-  pub switches : List ℤ
-
-abbrev pub lent : List ℤ → List ℤ → List ℤ → List ℤ → Lent
-lent ports invocations updates switches = record { ports = ports; invocations = invocations; updates = updates; switches = switches }
-
--- they have no more rows than document 01 allows
-pub record Within (L : Lent) : Type 0 where
-  pub ports : rowsIn portWidth (L .ports) ≤ maxPorts
-  pub rows : Few (L .invocations) (L .updates) (L .switches)
 
 -- the output copy of a task, a due update, a task driver, a schedule
 abbrev pub outputForm : Form
@@ -72,18 +56,18 @@ abbrev pub endIn : Aim → List Words
 endIn aim = map three (future (aim .ticks) (aim .next) ∷ return ∷ [])
 
 -- the parts of a block, with these numbers in them
-abbrev pub partsIn : Lent → List ℕ → Instant → Aim → List Words
-partsIn L entries when aim =
-    headIn (L .ports) (L .invocations) (L .updates) when
-    ++ (map three (testsOf (switchesIn (L .switches) when) (aim .stub))
-    ++ (bodyIn (L .invocations) when
+abbrev pub partsIn : Tables → List ℕ → Instant → Aim → List Words
+partsIn T entries when aim =
+    headIn (T .ports) (T .invocations) (T .updates) when
+    ++ (map three (testsOf (switchesIn (T .switches) when) (aim .stub))
+    ++ (bodyIn (T .invocations) when
     ++ (endIn aim
-    ++ map three (stubsIn entries (switchesIn (L .switches) when)))))
+    ++ map three (stubsIn entries (switchesIn (T .switches) when)))))
 
 -- how many there are of each
-abbrev pub countsAt : Lent → Instant → Counts
-countsAt L when =
-    countsIn (L .invocations) (L .updates) (L .switches) (length (sensorRows (L .ports) (λ p. p))) (when .mode .0) (when .units) (when .unit)
+abbrev pub countsAt : Tables → Instant → Counts
+countsAt T when =
+    countsIn (T .invocations) (T .updates) (T .switches) (length (sensorRows (T .ports) (λ p. p))) (when .mode .0) (when .units) (when .unit)
 
 -- unit k of a round
 abbrev pub unitOf : Round → ℕ → Instant
@@ -99,12 +83,12 @@ aimIn round k at due =
     record { stub = at + beforeFuture due + 2; ticks = round .ticks; next = nextIn round k (at + sizeOf due) }
 
 -- the block of unit k at an address
-abbrev pub blockIn : Lent → List ℕ → Round → ℕ → ℕ → List Words
-blockIn L entries round k at = partsIn L entries (unitOf round k) (aimIn round k at (countsAt L (unitOf round k)))
+abbrev pub blockIn : Tables → List ℕ → Round → ℕ → ℕ → List Words
+blockIn T entries round k at = partsIn T entries (unitOf round k) (aimIn round k at (countsAt T (unitOf round k)))
 
 -- where it stands, and the blocks of the round, one after the other
-abbrev pub blockStart : Lent → Round → ℕ → ℕ
-blockStart L round k = round .first + sum (λ j. sizeOf (countsAt L (unitOf round j))) k
+abbrev pub blockStart : Tables → Round → ℕ → ℕ
+blockStart T round k = round .first + sum (λ j. sizeOf (countsAt T (unitOf round j))) k
 
-abbrev pub roundIn : Lent → List ℕ → Round → List Words
-roundIn L entries round = cat (λ k. blockIn L entries round k (blockStart L round k)) (round .units)
+abbrev pub roundIn : Tables → List ℕ → Round → List Words
+roundIn T entries round = cat (λ k. blockIn T entries round k (blockStart T round k)) (round .units)

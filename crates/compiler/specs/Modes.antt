@@ -10,12 +10,8 @@ use Rattle.program.specs.Units.{units}
 use Rattle.code.specs.Op.{jump}
 use Rattle.layout.specs.Layout.{startIn}
 use Rattle.compiler.specs.Written.{Words, three}
-use Rattle.compiler.specs.Block.{Lent, lent, roundIn}
+use Rattle.compiler.specs.Block.{roundIn}
 use Rattle.compiler.specs.declared.rounds.Round.{Round}
-
--- the tables of a program of which blocks are written
-abbrev pub lentOf : Tables → Lent
-lentOf T = lent (T .ports) (T .invocations) (T .updates) (T .switches)
 
 -- the round of mode m, whose first block stands at an address
 abbrev pub roundOf : Tables → ℕ → ℕ → Round
@@ -23,7 +19,7 @@ roundOf T m first = record { mode = record { 0 = m }; units = units T m; ticks =
 
 -- its blocks
 abbrev pub modeIn : Tables → List ℕ → ℕ → ℕ → List Words
-modeIn T entries m first = roundIn (lentOf T) entries (roundOf T m first)
+modeIn T entries m first = roundIn T entries (roundOf T m first)
 
 -- where mode m stands
 abbrev pub modeStart : Tables → ℕ → ℕ

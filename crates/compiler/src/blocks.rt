@@ -1,13 +1,15 @@
 // E code of a block: what is due at one unit of a mode, in the order of document 01.
 ghost use mathlib.Core.Path.{_≡_};
 ghost use Prim.Native.Nat.{_+_, _≤_, _<_};
+ghost use lib.IntN.{ℤ};
 ghost use Rattle.cells.specs.Cell.{rowsIn, greatestWord};
 ghost use Rattle.cells.specs.Limits.{maxPorts, maxInvocations, maxUpdates};
-ghost use Rattle.program.specs.Tables.{portWidth, invocationWidth, updateWidth};
+ghost use Rattle.program.specs.Tables.{tablesIn, portWidth, invocationWidth, updateWidth};
+ghost use Rattle.rules.specs.Shape.{InShape};
 ghost use Rattle.layout.specs.Counts.{mostBlock};
 ghost use Rattle.compiler.specs.Written.{written, writes};
 ghost use Rattle.compiler.specs.Switches.{Addresses};
-ghost use Rattle.compiler.specs.Block.{lent, Within, Aimed, headIn, bodyIn, endIn, partsIn};
+ghost use Rattle.compiler.specs.Block.{Aimed, headIn, bodyIn, endIn, partsIn};
 use crate::rows;
 use crate::rows::Form;
 use crate::rows::Instant;
@@ -17,6 +19,7 @@ use crate::words;
 use cells::columns::invocation;
 use cells::columns::update;
 use cells::limits::Program;
+use cells::tables;
 use code::numbers;
 
 // The numbers in a block: where its first stub stands, the delay of its `future`, and the block of the next unit.
@@ -95,23 +98,29 @@ fn end(code: &mut [u32], at: usize, aim: Aim) -> usize
 pub fn parts(
     code: &mut [u32],
     at: usize,
-    ports: &[i32],
-    invocations: &[i32],
-    updates: &[i32],
-    switches: &[i32],
+    tables: &[&[i32]; Program::TABLES],
     entries: &[usize],
     when: Instant,
     aim: Aim,
 ) -> usize
-    requires { ⌜ Within (lent (now ports) (now invocations) (now updates) (now switches)) ⌝ }
+    requires { ⌜ InShape (now tables) ⌝ }
     requires { ⌜ Addresses (now entries) ⌝ }
     requires { ⌜ at + mostBlock < greatestWord ⌝ }
     requires { ⌜ Aimed aim ⌝ }
-    ensures { λ r. ⌜ written (now (code .exit)) r ≡ writes (partsIn (lent (now (ports .entry)) (now (invocations .entry))
-        (now (updates .entry)) (now (switches .entry))) (now (entries .entry)) when aim) (written (now (code .entry)) at) ⌝ }
+    ensures { λ r. ⌜ ((start : ℤ) → let T = tablesIn (now (tables .entry)) start in
+        written (now (code .exit)) r ≡ writes (partsIn T (now (entries .entry)) when aim) (written (now (code .entry)) at)) ⌝ }
 {
+    let invocations = tables[tables::INVOCATIONS];
+    let switches = tables[tables::SWITCHES];
     let stub = aim.stub;
-    let tests_at = head(code, at, ports, invocations, updates, when);
+    let tests_at = head(
+        code,
+        at,
+        tables[tables::PORTS],
+        invocations,
+        tables[tables::UPDATES],
+        when,
+    );
     let body_at = switches::tests(code, tests_at, switches, when, stub);
     let end_at = body(code, body_at, invocations, when);
     let stubs_at = end(code, end_at, aim);

@@ -1,19 +1,24 @@
 // E code of the round of a mode: the blocks of its units, one after the other.
 ghost use mathlib.Core.Path.{_≡_};
 ghost use Prim.Native.Nat.{suc, _+_, _≤_, _<_};
+ghost use lib.IntN.{ℤ};
 ghost use lib.ListN.{length};
 ghost use Rattle.cells.specs.Cell.{greatestWord};
 ghost use Rattle.cells.specs.Limits.{maxUnits};
+ghost use Rattle.program.specs.Tables.{tableAt, tablesIn, portsAt};
 ghost use Rattle.program.specs.Sets.{sensorRows};
+ghost use Rattle.rules.specs.Shape.{InShape};
 ghost use Rattle.layout.specs.Counts.{mostBlock, mostMode};
 ghost use Rattle.layout.specs.Few.{Sized};
 ghost use Rattle.compiler.specs.Written.{written, writes};
 ghost use Rattle.compiler.specs.Switches.{Addresses};
-ghost use Rattle.compiler.specs.Block.{lent, Within, nextIn, aimIn, blockIn, roundIn};
+ghost use Rattle.compiler.specs.Block.{nextIn, aimIn, blockIn, roundIn};
 use crate::blocks;
 use crate::blocks::Aim;
 use crate::rows::Instant;
 use cells::kinds::Mode;
+use cells::limits::Program;
+use cells::tables;
 use layout::counts;
 use layout::counts::Counts;
 
@@ -55,24 +60,21 @@ fn aims(round: Round, unit: usize, at: usize, due: Counts) -> Aim
 fn block(
     code: &mut [u32],
     at: usize,
-    ports: &[i32],
-    invocations: &[i32],
-    updates: &[i32],
-    switches: &[i32],
+    tables: &[&[i32]; Program::TABLES],
     entries: &[usize],
     sensors: usize,
     round: Round,
     unit: usize,
 ) -> usize
-    requires { ⌜ Within (lent (now ports) (now invocations) (now updates) (now switches)) ⌝ }
+    requires { ⌜ InShape (now tables) ⌝ }
     requires { ⌜ Addresses (now entries) ⌝ }
-    requires { ⌜ sensors ≡ length (sensorRows (now ports) (λ p. p)) ⌝ }
+    requires { ⌜ sensors ≡ length (sensorRows (tableAt (now tables) portsAt) (λ p. p)) ⌝ }
     requires { ⌜ round .ticks ≤ greatestWord ⌝ }
     requires { ⌜ round .first ≤ greatestWord ⌝ }
     requires { ⌜ unit < round .units ⌝ }
     requires { ⌜ at + mostBlock < greatestWord ⌝ }
-    ensures { λ r. ⌜ written (now (code .exit)) r ≡ writes (blockIn (lent (now (ports .entry)) (now (invocations .entry))
-        (now (updates .entry)) (now (switches .entry))) (now (entries .entry)) round unit at) (written (now (code .entry)) at) ⌝ }
+    ensures { λ r. ⌜ ((start : ℤ) → let T = tablesIn (now (tables .entry)) start in
+        written (now (code .exit)) r ≡ writes (blockIn T (now (entries .entry)) round unit at) (written (now (code .entry)) at)) ⌝ }
 {
     let mode = round.mode;
     let when = Instant {
@@ -80,6 +82,9 @@ fn block(
         units: round.units,
         unit: unit,
     };
+    let invocations = tables[tables::INVOCATIONS];
+    let updates = tables[tables::UPDATES];
+    let switches = tables[tables::SWITCHES];
     let due = counts::count(
         invocations,
         updates,
@@ -90,55 +95,31 @@ fn block(
         unit,
     );
     let aim = aims(round, unit, at, due);
-    blocks::parts(
-        code,
-        at,
-        ports,
-        invocations,
-        updates,
-        switches,
-        entries,
-        when,
-        aim,
-    )
+    blocks::parts(code, at, tables, entries, when, aim)
 }
 
 // The blocks of all units.
 pub fn all_blocks(
     code: &mut [u32],
-    ports: &[i32],
-    invocations: &[i32],
-    updates: &[i32],
-    switches: &[i32],
+    tables: &[&[i32]; Program::TABLES],
     entries: &[usize],
     sensors: usize,
     round: Round,
 ) -> usize
-    requires { ⌜ Within (lent (now ports) (now invocations) (now updates) (now switches)) ⌝ }
+    requires { ⌜ InShape (now tables) ⌝ }
     requires { ⌜ Addresses (now entries) ⌝ }
-    requires { ⌜ sensors ≡ length (sensorRows (now ports) (λ p. p)) ⌝ }
+    requires { ⌜ sensors ≡ length (sensorRows (tableAt (now tables) portsAt) (λ p. p)) ⌝ }
     requires { ⌜ round .ticks ≤ greatestWord ⌝ }
     requires { ⌜ round .units ≤ suc maxUnits ⌝ }
     requires { ⌜ round .first + mostMode < greatestWord ⌝ }
-    ensures { λ r. ⌜ written (now (code .exit)) r ≡ writes (roundIn (lent (now (ports .entry)) (now (invocations .entry))
-        (now (updates .entry)) (now (switches .entry))) (now (entries .entry)) round) (written (now (code .entry)) (round .first)) ⌝ }
+    ensures { λ r. ⌜ ((start : ℤ) → let T = tablesIn (now (tables .entry)) start in
+        written (now (code .exit)) r ≡ writes (roundIn T (now (entries .entry)) round) (written (now (code .entry)) (round .first))) ⌝ }
 {
     let n = round.units;
     let mut at = round.first;
     let mut unit = 0;
     while unit < n {
-        at = block(
-            code,
-            at,
-            ports,
-            invocations,
-            updates,
-            switches,
-            entries,
-            sensors,
-            round,
-            unit,
-        );
+        at = block(code, at, tables, entries, sensors, round, unit);
         unit += 1;
     }
     at

@@ -1,7 +1,9 @@
 // Number 2, one row at a time: each test says "bad" of a row, as its definition does.
 ghost use mathlib.Core.Path.{_≡_};
-ghost use Rattle.program.specs.Tables.{Tables};
-ghost use Rattle.rules.specs.Fields.{inRange, portBad, taskBad, taskPortBad, alwaysFits, intervalFits, driverBad, copyBad, modeBad, modePortBad, invocationBad, updateBad, switchBad, startBad};
+ghost use lib.IntN.{ℤ};
+ghost use Rattle.program.specs.Tables.{Tables, tablesIn};
+ghost use Rattle.rules.specs.Fields.{inRange, portBad, taskBad, taskPortBad, alwaysFits, intervalFits, driverBad, copyBad, modeBad};
+ghost use Rattle.rules.specs.Fields.{modePortBad, invocationBad, updateBad, switchBad, startBad};
 use cells::columns::copy;
 use cells::columns::driver;
 use cells::columns::invocation;
@@ -18,6 +20,7 @@ use cells::reading::Reading;
 use cells::reading::at_most;
 use cells::reading::same;
 use cells::table;
+use cells::tables;
 
 // From 1 to the limit.
 fn in_range(n: usize, limit: usize) -> bool
@@ -43,10 +46,12 @@ pub fn task_bad(tasks: &[i32], row: usize) -> bool
 }
 
 // No such task, or no such port.
-pub fn task_port_bad(ports: &[i32], tasks: &[i32], task_ports: &[i32], row: usize) -> bool
-    ensures { λ r. ⌜ ((T : Tables) → T .ports ≡ now (ports .entry) → T .tasks ≡ now (tasks .entry)
-        → T .taskPorts ≡ now («task_ports» .entry) → r ≡ taskPortBad T row) ⌝ }
+pub fn task_port_bad(tables: &[&[i32]; Program::TABLES], row: usize) -> bool
+    ensures { λ r. ⌜ ((start : ℤ) → r ≡ taskPortBad (tablesIn (now (tables .entry)) start) row) ⌝ }
 {
+    let ports = tables[tables::PORTS];
+    let tasks = tables[tables::TASKS];
+    let task_ports = tables[tables::TASK_PORTS];
     let t = table::task(task_ports, task_port::WIDTH, row, task_port::TASK).index();
     let p = table::port(task_ports, task_port::WIDTH, row, task_port::PORT).index();
     !((t < tasks.len() / task::WIDTH) & (p < ports.len() / port::WIDTH))
@@ -86,10 +91,12 @@ pub fn driver_bad(ports: &[i32], drivers: &[i32], row: usize) -> bool
 }
 
 // No such driver, source or destination.
-pub fn copy_bad(ports: &[i32], drivers: &[i32], copies: &[i32], row: usize) -> bool
-    ensures { λ r. ⌜ ((T : Tables) → T .ports ≡ now (ports .entry) → T .drivers ≡ now (drivers .entry)
-        → T .copies ≡ now (copies .entry) → r ≡ copyBad T row) ⌝ }
+pub fn copy_bad(tables: &[&[i32]; Program::TABLES], row: usize) -> bool
+    ensures { λ r. ⌜ ((start : ℤ) → r ≡ copyBad (tablesIn (now (tables .entry)) start) row) ⌝ }
 {
+    let ports = tables[tables::PORTS];
+    let drivers = tables[tables::DRIVERS];
+    let copies = tables[tables::COPIES];
     let d = table::driver(copies, copy::WIDTH, row, copy::DRIVER).index();
     let from = table::port(copies, copy::WIDTH, row, copy::SOURCE).index();
     let to = table::port(copies, copy::WIDTH, row, copy::DESTINATION).index();
@@ -108,26 +115,25 @@ pub fn mode_bad(modes: &[i32], row: usize) -> bool
 }
 
 // No such mode, or no such port.
-pub fn mode_port_bad(ports: &[i32], modes: &[i32], mode_ports: &[i32], row: usize) -> bool
-    ensures { λ r. ⌜ ((T : Tables) → T .ports ≡ now (ports .entry) → T .modes ≡ now (modes .entry)
-        → T .modePorts ≡ now («mode_ports» .entry) → r ≡ modePortBad T row) ⌝ }
+pub fn mode_port_bad(tables: &[&[i32]; Program::TABLES], row: usize) -> bool
+    ensures { λ r. ⌜ ((start : ℤ) → r ≡ modePortBad (tablesIn (now (tables .entry)) start) row) ⌝ }
 {
+    let ports = tables[tables::PORTS];
+    let modes = tables[tables::MODES];
+    let mode_ports = tables[tables::MODE_PORTS];
     let m = table::mode(mode_ports, mode_port::WIDTH, row, mode_port::MODE).index();
     let p = table::port(mode_ports, mode_port::WIDTH, row, mode_port::PORT).index();
     !((m < modes.len() / mode::WIDTH) & (p < ports.len() / port::WIDTH))
 }
 
 // No such mode, task or driver, or a frequency out of range.
-pub fn invocation_bad(
-    tasks: &[i32],
-    drivers: &[i32],
-    modes: &[i32],
-    invocations: &[i32],
-    row: usize,
-) -> bool
-    ensures { λ r. ⌜ ((T : Tables) → T .tasks ≡ now (tasks .entry) → T .drivers ≡ now (drivers .entry)
-        → T .modes ≡ now (modes .entry) → T .invocations ≡ now (invocations .entry) → r ≡ invocationBad T row) ⌝ }
+pub fn invocation_bad(tables: &[&[i32]; Program::TABLES], row: usize) -> bool
+    ensures { λ r. ⌜ ((start : ℤ) → r ≡ invocationBad (tablesIn (now (tables .entry)) start) row) ⌝ }
 {
+    let tasks = tables[tables::TASKS];
+    let drivers = tables[tables::DRIVERS];
+    let modes = tables[tables::MODES];
+    let invocations = tables[tables::INVOCATIONS];
     let m = table::mode(invocations, invocation::WIDTH, row, invocation::MODE).index();
     let frequency = table::field(invocations, invocation::WIDTH, row, invocation::FREQUENCY);
     let t = table::task(invocations, invocation::WIDTH, row, invocation::TASK).index();
@@ -140,10 +146,12 @@ pub fn invocation_bad(
 }
 
 // No such mode or driver, or a frequency out of range.
-pub fn update_bad(drivers: &[i32], modes: &[i32], updates: &[i32], row: usize) -> bool
-    ensures { λ r. ⌜ ((T : Tables) → T .drivers ≡ now (drivers .entry) → T .modes ≡ now (modes .entry)
-        → T .updates ≡ now (updates .entry) → r ≡ updateBad T row) ⌝ }
+pub fn update_bad(tables: &[&[i32]; Program::TABLES], row: usize) -> bool
+    ensures { λ r. ⌜ ((start : ℤ) → r ≡ updateBad (tablesIn (now (tables .entry)) start) row) ⌝ }
 {
+    let drivers = tables[tables::DRIVERS];
+    let modes = tables[tables::MODES];
+    let updates = tables[tables::UPDATES];
     let m = table::mode(updates, update::WIDTH, row, update::MODE).index();
     let frequency = table::field(updates, update::WIDTH, row, update::FREQUENCY);
     let d = table::driver(updates, update::WIDTH, row, update::DRIVER).index();
@@ -152,10 +160,12 @@ pub fn update_bad(drivers: &[i32], modes: &[i32], updates: &[i32], row: usize) -
 }
 
 // No such mode, target or driver, or a frequency out of range.
-pub fn switch_bad(drivers: &[i32], modes: &[i32], switches: &[i32], row: usize) -> bool
-    ensures { λ r. ⌜ ((T : Tables) → T .drivers ≡ now (drivers .entry) → T .modes ≡ now (modes .entry)
-        → T .switches ≡ now (switches .entry) → r ≡ switchBad T row) ⌝ }
+pub fn switch_bad(tables: &[&[i32]; Program::TABLES], row: usize) -> bool
+    ensures { λ r. ⌜ ((start : ℤ) → r ≡ switchBad (tablesIn (now (tables .entry)) start) row) ⌝ }
 {
+    let drivers = tables[tables::DRIVERS];
+    let modes = tables[tables::MODES];
+    let switches = tables[tables::SWITCHES];
     let m = table::mode(switches, switch::WIDTH, row, switch::MODE).index();
     let frequency = table::field(switches, switch::WIDTH, row, switch::FREQUENCY);
     let target = table::mode(switches, switch::WIDTH, row, switch::TARGET).index();
@@ -166,9 +176,9 @@ pub fn switch_bad(drivers: &[i32], modes: &[i32], switches: &[i32], row: usize) 
 }
 
 // No such start mode.
-pub fn start_bad(modes: &[i32], start: i32) -> bool
-    ensures { λ r. ⌜ ((T : Tables) → T .modes ≡ now (modes .entry) → T .start ≡ start → r ≡ startBad T) ⌝ }
+pub fn start_bad(modes: &[i32], program: Program) -> bool
+    ensures { λ r. ⌜ ((T : Tables) → T .modes ≡ now (modes .entry) → T .start ≡ program .start → r ≡ startBad T) ⌝ }
 {
-    let m = Mode::of(table::index(start)).index();
+    let m = Mode::of(table::index(program.start)).index();
     modes.len() / mode::WIDTH <= m
 }

@@ -7,7 +7,8 @@ use mathlib.Core.Option.{Option, none, some}
 use lib.IntN.{ℤ}
 use Rattle.theory.specs.Lists.{keep, gather, member, puts}
 use Rattle.program.specs.Guard.{holds}
-use Rattle.program.specs.Program.{Program, Mode, Switch, task, driver, mode, ticksOf, nextUnit, enteredUnit, dueInvocations, dueUpdates, dueSwitches, dueTasks}
+use Rattle.program.specs.Program.{Program, Mode, Switch, task, driver, mode, ticksOf, nextUnit, enteredUnit, dueInvocations, dueUpdates}
+use Rattle.program.specs.Program.{dueSwitches, dueTasks}
 use Rattle.program.specs.Ports.{valueOf, valuesOf, takes, drive, driveAll}
 
 -- C = (τ, m, u, v, σactive): the tick of the next instant, mode, unit counter, port values, active tasks

@@ -7,7 +7,9 @@ use mathlib.Core.Path.{_≡_}
 use mathlib.Core.Bool.{true}
 use mathlib.Core.Logic.{_⊎_, _↔_}
 use lib.IntN.{ℤ}
-use Rattle.program.specs.Tables.{Tables, copyCount, copyDriver, copySource, copyDestination, invocationCount, invMode, invFrequency, invTask, invDriver, updateCount, updMode, updFrequency, updDriver, switchCount, swMode, swFrequency, swTarget, swDriver, modePeriod}
+use Rattle.program.specs.Tables.{Tables, copyCount, copyDriver, copySource, copyDestination, invocationCount, invMode, invFrequency}
+use Rattle.program.specs.Tables.{invTask, invDriver, updateCount, updMode, updFrequency, updDriver, switchCount, swMode, swFrequency}
+use Rattle.program.specs.Tables.{swTarget, swDriver, modePeriod}
 use Rattle.program.specs.Guard.{guardOf, holds}
 use Rattle.program.specs.Sets.{Sensor, Output}
 use Rattle.program.specs.Units.{units, due}

@@ -1,24 +1,48 @@
--- What a call, a `schedule` and an `if` name, in the tables: there are as many tasks and drivers as rows, and a number is that of a
--- sensor exactly where its name is. Assumes of the sensors that there are no more ports than the limit.
+-- What a call, a `schedule` and an `if` name, in the tables: there are as many tasks and drivers as rows, tables in shape have no more
+-- than the limits, and a number is that of a sensor exactly where its name is. Assumes of the sensors that ports are no more either.
 use Prim.Native.Nat.{ℕ, _≤_}
 use mathlib.Core.Path.{_≡_, refl, sym, subst, ap, _∙_}
 use mathlib.Core.Bool.{true}
 use mathlib.Core.List.{List}
 use native.Mathlib.Omega.{arith}
 use lib.Dec.{leb}
-use lib.IntN.{ℤ}
+use lib.IntN.{ℤ, pos}
 use lib.ListN.{length}
+use denote.Ref.{RefT}
 use Rattle.theory.specs.Lists.{member}
 use Rattle.theory.proofs.Bools.{iff, is-true}
 use Rattle.theory.proofs.Members.{has-those, member-says}
 use Rattle.cells.specs.Cell.{nameOf, rowsIn}
-use Rattle.cells.specs.Limits.{maxPorts}
+use Rattle.cells.specs.Limits.{maxPorts, maxTasks, maxDrivers}
 use Rattle.cells.proofs.Names.{name-small, name-below}
-use Rattle.program.specs.Tables.{Tables, portCount, sensor, taskWidth, driverWidth}
+use Rattle.program.specs.Tables.{Tables, tablesIn, portCount, sensor, taskWidth, taskCount, driverWidth, driverCount}
 use Rattle.program.specs.Sets.{isKind}
-use Rattle.program.specs.Program.{programOf}
+use Rattle.program.specs.Program.{Program, programOf}
 use Rattle.program.proofs.Sets.{kind-says}
 use Rattle.program.proofs.Decoded.{task-count, driver-count}
+use Rattle.rules.specs.Shape.{Shaped, InShape}
+use Rattle.rules.proofs.Shape.{shape-bars, whole-few, ports-few, tasks-few}
+
+-- the program of tables that are lent, with a start mode
+abbrev pub programIn : List (RefT (List ℤ)) → ℤ → Program
+programIn lent start = programOf (tablesIn lent start)
+
+module _ (lent : List (RefT (List ℤ))) (s : InShape lent) where
+  -- tables in shape, with any start mode
+  abbrev shaped : Shaped (tablesIn lent (pos 0))
+  shaped = shape-bars (tablesIn lent (pos 0)) .ok (s (pos 0))
+
+  -- they have no more ports than the limit
+  pub few-ports : portCount (tablesIn lent (pos 0)) ≤ maxPorts
+  few-ports = ports-few (tablesIn lent (pos 0)) shaped
+
+  -- no more tasks
+  pub few-tasks : taskCount (tablesIn lent (pos 0)) ≤ maxTasks
+  few-tasks = tasks-few (tablesIn lent (pos 0)) shaped
+
+  -- and no more drivers
+  pub few-drivers : driverCount (tablesIn lent (pos 0)) ≤ maxDrivers
+  few-drivers = whole-few driverWidth maxDrivers (tablesIn lent (pos 0) .drivers) (shaped .drivers)
 
 module _ (T : Tables) where
   -- a task's number is past the end of the table, or before it

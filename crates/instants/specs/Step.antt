@@ -1,15 +1,12 @@
 -- What one instruction of E code comes to, as the code hands it on: 19, 16 or 17, or the machine after it, and whether it was the
 -- `return`. Assumes nothing.
-use Prim.Native.Nat.{ℕ, zero, suc, _^_, _≤_}
+use Prim.Native.Nat.{ℕ, zero, suc, _^_}
 use mathlib.Core.Bool.{true, false}
 use mathlib.Core.List.{List}
 use lib.IntN.{ℤ}
 use lib.ListN.{length}
 use Rattle.theory.specs.Verdict.{acceptedNumber, verdict}
-use Rattle.cells.specs.Cell.{rowsIn}
-use Rattle.cells.specs.Limits.{maxPorts, maxTasks, maxDrivers}
 use Rattle.cells.specs.Refusals.{overrunRefused, faultyRefused}
-use Rattle.program.specs.Tables.{portWidth, taskWidth, driverWidth}
 use Rattle.program.specs.Program.{Program}
 use Rattle.code.specs.Op.{Op}
 use Rattle.machine.specs.Instruction.{Call, namesNothing, stillCalled, called, instructionRefusals, executes}
@@ -22,12 +19,6 @@ use Rattle.instants.specs.declared.instructions.Stepped.{Stepped}
 -- every address of an instruction is smaller, since its code has fewer than 2^64 words; so the next address fits 64 bits
 abbrev pub addressEnd : ℕ
 addressEnd = 2 ^ 63
-
--- no more ports, tasks and drivers than the limits: every number of one that is declared fits its kind
-pub record Named (ports tasks drivers : List ℤ) : Type 0 where
-  pub few-ports : rowsIn portWidth ports ≤ maxPorts
-  pub few-tasks : rowsIn taskWidth tasks ≤ maxTasks
-  pub few-drivers : rowsIn driverWidth drivers ≤ maxDrivers
 
 module _ (P : Program) (readings times : List ℤ) where
   -- a call: 19 if it names nothing, 17 if its task is still running, or the state after it

@@ -5,10 +5,11 @@ ghost use Prim.Native.Nat.{_≤_};
 ghost use lib.IntN.{ℤ};
 ghost use Rattle.cells.specs.Cell.{rowsIn};
 ghost use Rattle.cells.specs.Limits.{maxPorts, maxTasks, maxDrivers};
-ghost use Rattle.program.specs.Tables.{Tables, portWidth, taskWidth, driverWidth};
+ghost use Rattle.program.specs.Tables.{Tables, tablesIn, portWidth, taskWidth, driverWidth};
 ghost use Rattle.program.specs.Program.{programOf};
+ghost use Rattle.rules.specs.Shape.{InShape};
 ghost use Rattle.machine.specs.Instruction.{driverCall, outputCall, sensorCall, callOf};
-ghost use Rattle.instants.specs.Step.{Named, callAnswer};
+ghost use Rattle.instants.specs.Step.{callAnswer};
 use cells::columns::driver;
 use cells::columns::port;
 use cells::columns::task;
@@ -17,6 +18,7 @@ use cells::kinds::Port;
 use cells::kinds::Task;
 use cells::limits::Program;
 use cells::refusals;
+use cells::tables;
 use machine::Advanced;
 use machine::State;
 use machine::values;
@@ -108,25 +110,20 @@ fn sensor_call(ports: &[i32], readings: &[i32], p: usize, s: State) -> Advanced
 }
 
 // A call of this number.
-pub fn call(
-    ports: &[i32],
-    tasks: &[i32],
-    task_ports: &[i32],
-    drivers: &[i32],
-    copies: &[i32],
-    readings: &[i32],
-    n: usize,
-    s: State,
-) -> Advanced
-    requires { ⌜ Named (now ports) (now tasks) (now drivers) ⌝ }
-    ensures { λ r. ⌜ ((T : Tables) → T .ports ≡ now (ports .entry) → T .tasks ≡ now (tasks .entry)
-        → T .taskPorts ≡ now («task_ports» .entry) → T .drivers ≡ now (drivers .entry) → T .copies ≡ now (copies .entry)
-        → (times : List ℤ) → r ≡ callAnswer (programOf T) (now (readings .entry)) times s (callOf n)) ⌝ }
+pub fn call(tables: &[&[i32]; Program::TABLES], readings: &[i32], n: usize, s: State) -> Advanced
+    requires { ⌜ InShape (now tables) ⌝ }
+    ensures { λ r. ⌜ ((start : ℤ) (times : List ℤ) → let P = programOf (tablesIn (now (tables .entry)) start) in
+        r ≡ callAnswer P (now (readings .entry)) times s (callOf n)) ⌝ }
 {
+    let ports = tables[tables::PORTS];
+    let tasks = tables[tables::TASKS];
     match n {
-        DRIVER_CALL..=LAST_DRIVER_CALL => driver_call(drivers, copies, n, s),
+        DRIVER_CALL..=LAST_DRIVER_CALL => {
+            driver_call(tables[tables::DRIVERS], tables[tables::COPIES], n, s)
+        }
         Program::OUTPUT_CALL..=LAST_OUTPUT_CALL => {
-            output_call(ports, tasks, task_ports, n - Program::OUTPUT_CALL, s)
+            let t = n - Program::OUTPUT_CALL;
+            output_call(ports, tasks, tables[tables::TASK_PORTS], t, s)
         }
         _ => sensor_call(ports, readings, n - Program::SENSOR_CALL, s),
     }

@@ -7,10 +7,11 @@ ghost use lib.IntN.{ℤ};
 ghost use Rattle.theory.specs.Verdict.{acceptedNumber};
 ghost use Rattle.cells.specs.Cell.{rowsIn};
 ghost use Rattle.cells.specs.Limits.{maxTasks, maxDrivers};
-ghost use Rattle.program.specs.Tables.{Tables, taskWidth, driverWidth};
+ghost use Rattle.program.specs.Tables.{Tables, tablesIn, taskWidth, driverWidth};
 ghost use Rattle.program.specs.Program.{programOf};
+ghost use Rattle.rules.specs.Shape.{InShape};
 ghost use Rattle.code.specs.Op.{callNumber, scheduleNumber, ifNumber, jumpNumber, futureNumber, returnNumber, instructions, decode};
-ghost use Rattle.instants.specs.Step.{Named, addressEnd, stepped, stepAt};
+ghost use Rattle.instants.specs.Step.{addressEnd, stepped, stepAt};
 use crate::calls;
 use cells::columns::driver;
 use cells::columns::task;
@@ -19,6 +20,7 @@ use cells::kinds::Task;
 use cells::limits::Program;
 use cells::refusals;
 use cells::table;
+use cells::tables;
 use code::numbers;
 use machine::At;
 use machine::State;
@@ -69,37 +71,22 @@ fn moved(at: At, state: State) -> Stepped
 
 // `call n`.
 fn call(
-    ports: &[i32],
-    tasks: &[i32],
-    task_ports: &[i32],
-    drivers: &[i32],
-    copies: &[i32],
+    tables: &[&[i32]; Program::TABLES],
     readings: &[i32],
     n: usize,
     unused: usize,
     at: At,
 ) -> Stepped
-    requires { ⌜ Named (now ports) (now tasks) (now drivers) ⌝ }
+    requires { ⌜ InShape (now tables) ⌝ }
     requires { ⌜ at .address < addressEnd ⌝ }
-    ensures { λ r. ⌜ ((T : Tables) → T .ports ≡ now (ports .entry) → T .tasks ≡ now (tasks .entry)
-        → T .taskPorts ≡ now («task_ports» .entry) → T .drivers ≡ now (drivers .entry) → T .copies ≡ now (copies .entry)
-        → (times : List ℤ) (count : ℕ) → r ≡ stepped (programOf T) (now (readings .entry)) times count
-        (decode callNumber n unused) at) ⌝ }
+    ensures { λ r. ⌜ ((start : ℤ) (times : List ℤ) (count : ℕ) → let P = programOf (tablesIn (now (tables .entry)) start) in
+        r ≡ stepped P (now (readings .entry)) times count (decode callNumber n unused) at) ⌝ }
 {
     if 0 < unused {
         return refused(refusals::FAULTY, at);
     }
     let before = at.state;
-    let after = calls::call(
-        ports,
-        tasks,
-        task_ports,
-        drivers,
-        copies,
-        readings,
-        n,
-        before,
-    );
+    let after = calls::call(tables, readings, n, before);
     if refusals::ACCEPTED < after.number {
         return refused(after.number, at);
     }
@@ -212,20 +199,15 @@ fn finish(first: usize, second: usize, at: At) -> Stepped
 
 // The instruction at the machine's address, by its number; past the end stands none.
 pub fn step(
-    ports: &[i32],
-    tasks: &[i32],
-    task_ports: &[i32],
-    drivers: &[i32],
-    copies: &[i32],
+    tables: &[&[i32]; Program::TABLES],
     code: &[u32],
     readings: &[i32],
     times: &[i32],
     at: At,
 ) -> Stepped
-    requires { ⌜ Named (now ports) (now tasks) (now drivers) ⌝ }
-    ensures { λ r. ⌜ ((T : Tables) → T .ports ≡ now (ports .entry) → T .tasks ≡ now (tasks .entry)
-        → T .taskPorts ≡ now («task_ports» .entry) → T .drivers ≡ now (drivers .entry) → T .copies ≡ now (copies .entry)
-        → r ≡ stepAt (programOf T) (now (readings .entry)) (now (times .entry)) (instructions (now (code .entry))) at) ⌝ }
+    requires { ⌜ InShape (now tables) ⌝ }
+    ensures { λ r. ⌜ ((start : ℤ) → let P = programOf (tablesIn (now (tables .entry)) start) in
+        r ≡ stepAt P (now (readings .entry)) (now (times .entry)) (instructions (now (code .entry))) at) ⌝ }
 {
     let count = code.len() / Program::WORDS;
     if count <= at.address {
@@ -236,19 +218,9 @@ pub fn step(
     let first = table::word(code, place + 1);
     let second = table::word(code, place + 2);
     match number {
-        numbers::CALL => call(
-            ports,
-            tasks,
-            task_ports,
-            drivers,
-            copies,
-            readings,
-            first,
-            second,
-            at,
-        ),
-        numbers::SCHEDULE => schedule(tasks, times, first, second, at),
-        numbers::IF => branch(drivers, count, first, second, at),
+        numbers::CALL => call(tables, readings, first, second, at),
+        numbers::SCHEDULE => schedule(tables[tables::TASKS], times, first, second, at),
+        numbers::IF => branch(tables[tables::DRIVERS], count, first, second, at),
         numbers::JUMP => jump(count, first, second, at),
         numbers::FUTURE => future(count, first, second, at),
         numbers::RETURN => finish(first, second, at),

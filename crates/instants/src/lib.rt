@@ -1,11 +1,12 @@
 // One instant of the E machine over lent words: from the pending address to `return`, in at most as many instructions as there are.
 ghost use mathlib.Core.Path.{_≡_};
-ghost use Rattle.program.specs.Tables.{Tables};
+ghost use lib.IntN.{ℤ};
+ghost use Rattle.program.specs.Tables.{tablesIn};
 ghost use Rattle.program.specs.Program.{programOf};
+ghost use Rattle.rules.specs.Shape.{InShape};
 ghost use Rattle.code.specs.Op.{instructions};
 ghost use Rattle.machine.specs.Instant.{ended, runInstant};
 ghost use Rattle.machine.specs.Advance.{answer};
-ghost use Rattle.instants.specs.Step.{Named};
 use cells::limits::Program;
 use cells::refusals;
 use machine::Advanced;
@@ -33,20 +34,15 @@ fn spent(count: usize, address: usize, s: State) -> Advanced
 
 // The instant, or its refusal with the state as it was.
 pub fn run(
-    ports: &[i32],
-    tasks: &[i32],
-    task_ports: &[i32],
-    drivers: &[i32],
-    copies: &[i32],
+    tables: &[&[i32]; Program::TABLES],
     code: &[u32],
     readings: &[i32],
     times: &[i32],
     s: State,
 ) -> Advanced
-    requires { ⌜ Named (now ports) (now tasks) (now drivers) ⌝ }
-    ensures { λ r. ⌜ ((T : Tables) → T .ports ≡ now (ports .entry) → T .tasks ≡ now (tasks .entry)
-        → T .taskPorts ≡ now («task_ports» .entry) → T .drivers ≡ now (drivers .entry) → T .copies ≡ now (copies .entry)
-        → r ≡ answer s (runInstant (programOf T) (now (readings .entry)) (now (times .entry)) (instructions (now (code .entry))) s)) ⌝ }
+    requires { ⌜ InShape (now tables) ⌝ }
+    ensures { λ r. ⌜ ((start : ℤ) → let P = programOf (tablesIn (now (tables .entry)) start) in
+        r ≡ answer s (runInstant P (now (readings .entry)) (now (times .entry)) (instructions (now (code .entry))) s)) ⌝ }
 {
     let count = code.len() / Program::WORDS;
     let mut at = At {
@@ -56,17 +52,7 @@ pub fn run(
     };
     let mut more = count;
     while 0 < more {
-        let next = instructions::step(
-            ports,
-            tasks,
-            task_ports,
-            drivers,
-            copies,
-            code,
-            readings,
-            times,
-            at,
-        );
+        let next = instructions::step(tables, code, readings, times, at);
         if refusals::ACCEPTED < next.number {
             return Advanced {
                 number: next.number,

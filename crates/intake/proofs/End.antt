@@ -9,10 +9,10 @@ use lib.IntN.{ℤ}
 use lib.ListN.{length, take, drop, take-append-drop}
 use lib.Seq.{length-take-le}
 use borrow.Author.Tests.{eqb-true, eqb-false}
+use Rattle.cells.specs.Limits.{tableCount}
 use Rattle.text.specs.Input.{bad, got, Shape, shapes, placed}
-use Rattle.intake.specs.Shapes.{tableCount}
 use Rattle.intake.specs.Line.{fed, isComplete}
-use Rattle.intake.specs.Heard.{piece, tablesIn, heard}
+use Rattle.intake.specs.Heard.{piece, tablesRead, heard}
 use Rattle.intake.specs.declared.state.Intake.{Intake}
 use Rattle.intake.proofs.Rest.{going}
 use Rattle.intake.proofs.Pieces.{pieces, pieces-within}
@@ -34,7 +34,7 @@ module _ (i : Intake) (room : List ℤ) (s : Sound i (length room)) where
         (next-shape (i .table) (omega (arith, s .few, eqb-false (i .table) tableCount t)))
 
     -- nothing is missing
-    end-whole : eqb (i .table) tableCount ≡ true → fromHere i room [] ≡ got (tablesIn (fed i room)) []
+    end-whole : eqb (i .table) tableCount ≡ true → fromHere i room [] ≡ got (tablesRead (fed i room)) []
     end-whole t =
         let so-far = take (i .at) room in
         let none-left = eqb-true (i .left) 0 h in

@@ -9,8 +9,9 @@ use native.Mathlib.Decide.{decLt, decLe}
 use native.Mathlib.Omega.{arith}
 use lib.IntN.{ℤ, pos, negsuc}
 use lib.ListN.{length, set, length-set}
+use Rattle.cells.specs.Limits.{tableCount}
 use Rattle.text.specs.Input.{bad, tooMany}
-use Rattle.intake.specs.Shapes.{tableCount, shapeAt}
+use Rattle.intake.specs.Shapes.{shapeAt}
 use Rattle.intake.specs.Change.{asBad, asTooMany, withNumber, withTable}
 use Rattle.intake.specs.Line.{Fed, fed, storedOf, countedOf}
 use Rattle.intake.specs.declared.state.Intake.{Intake}

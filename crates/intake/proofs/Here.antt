@@ -9,8 +9,9 @@ use native.Mathlib.Omega.{arith}
 use lib.IntN.{ℤ, pos, negsuc}
 use lib.ListN.{length, set, take, drop, drop-of-length-le}
 use lib.Seq.{take-suc-set, length-take-le}
+use Rattle.cells.specs.Limits.{tableCount}
 use Rattle.text.specs.Input.{bad, tooMany, Shape, shapes}
-use Rattle.intake.specs.Shapes.{tableCount, shapeAt}
+use Rattle.intake.specs.Shapes.{shapeAt}
 use Rattle.intake.specs.Change.{withNumber, withTable}
 use Rattle.intake.specs.Heard.{piece}
 use Rattle.intake.specs.declared.state.Intake.{Intake}

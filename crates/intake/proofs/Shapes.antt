@@ -9,9 +9,9 @@ use lib.ListN.{getD, List·getD-map, List·getD-eq-default}
 use Rattle.theory.specs.Lists.{Every}
 use Rattle.theory.proofs.Lists.{every-at}
 use Rattle.cells.specs.Cell.{widest}
-use Rattle.cells.specs.Limits.{maxCopies}
+use Rattle.cells.specs.Limits.{tableCount, maxCopies}
 use Rattle.text.specs.Input.{Shape, shapes}
-use Rattle.intake.specs.Shapes.{tableCount, noShape, shapeAt}
+use Rattle.intake.specs.Shapes.{noShape, shapeAt}
 
 -- the width of a table is that of the code's list
 pub width-at : (k : ℕ) → getD (map (λ (s : Shape). s .width) shapes) k 0 ≡ shapeAt k .width

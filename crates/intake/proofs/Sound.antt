@@ -12,8 +12,9 @@ use lib.IntN.{ℤ}
 use lib.ListN.{length, drop, length-set}
 use lib.Seq.{drop-cons, getD-set-same, getD-set-other}
 use Rattle.theory.proofs.Bools.{clash}
+use Rattle.cells.specs.Limits.{tableCount}
 use Rattle.text.specs.Input.{shapes}
-use Rattle.intake.specs.Shapes.{tableCount, noShape, shapeAt, roomFor}
+use Rattle.intake.specs.Shapes.{noShape, shapeAt, roomFor}
 use Rattle.intake.specs.Change.{asBad, asTooMany, withStart, withNumber, withTable}
 use Rattle.intake.specs.declared.state.Intake.{Intake}
 use Rattle.intake.proofs.Pieces.{endOf}

@@ -7,8 +7,9 @@ use lib.IntN.{ℤ}
 use lib.ListN.{length, set}
 use borrow.Author.Tests.{lt-ltb, le-ltb, le-leb, lt-leb}
 use Rattle.cells.specs.Cell.{indexOf}
+use Rattle.cells.specs.Limits.{tableCount}
 use Rattle.text.specs.declared.number.Signed.{Signed}
-use Rattle.intake.specs.Shapes.{tableCount, shapeAt}
+use Rattle.intake.specs.Shapes.{shapeAt}
 use Rattle.intake.specs.Change.{asBad, asTooMany, withStart, withNumber, withTable}
 use Rattle.intake.specs.Line.{fed, isDecided, storedOf, countedOf, tookOf}
 use Rattle.intake.specs.declared.state.Intake.{Intake}

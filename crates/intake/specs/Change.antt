@@ -4,9 +4,9 @@ use Prim.Native.Nat.{ℕ, _+_, _-_}
 use mathlib.Core.Bool.{true, false}
 use lib.IntN.{ℤ, pos}
 use lib.ListN.{set, replicate}
+use Rattle.cells.specs.Limits.{tableCount}
 use Rattle.text.specs.Part.{startPart}
 use Rattle.text.specs.declared.number.Part.{Part}
-use Rattle.intake.specs.Shapes.{tableCount}
 use Rattle.intake.specs.declared.state.Intake.{Intake}
 
 -- nothing was read yet

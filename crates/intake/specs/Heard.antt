@@ -14,11 +14,11 @@ abbrev pub piece : Intake → List ℤ → ℕ → List ℤ
 piece i room k = take (getD (i .lens) k 0) (drop (getD (i .begins) k 0) room)
 
 -- the ten tables and the start mode
-abbrev pub tablesIn : Fed → Tables
-tablesIn f =
+abbrev pub tablesRead : Fed → Tables
+tablesRead f =
     let t = piece (f .intake) (f .room) in
     tables (t 0) (t 1) (t 2) (t 3) (t 4) (t 5) (t 6) (t 7) (t 8) (t 9) (f .intake .start)
 
 -- a text that is complete is a program; of the others a count was out of its limit, or the text is bad
 unfoldable pub heard : Fed → Read Tables
-heard f = cond (isComplete (f .intake)) (got (tablesIn f) []) (cond (f .intake .«too_many») tooMany bad)
+heard f = cond (isComplete (f .intake)) (got (tablesRead f) []) (cond (f .intake .«too_many») tooMany bad)

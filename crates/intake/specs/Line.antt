@@ -7,8 +7,9 @@ use lib.Dec.{eqb, ltb, leb}
 use lib.IntN.{ℤ}
 use lib.ListN.{length, set}
 use Rattle.cells.specs.Cell.{indexOf}
+use Rattle.cells.specs.Limits.{tableCount}
 use Rattle.text.specs.declared.number.Signed.{Signed}
-use Rattle.intake.specs.Shapes.{tableCount, shapeAt}
+use Rattle.intake.specs.Shapes.{shapeAt}
 use Rattle.intake.specs.Change.{asBad, asTooMany, withStart, withNumber, withTable}
 use Rattle.intake.specs.declared.state.Intake.{Intake}
 

@@ -4,10 +4,6 @@ use mathlib.Core.List.{List, [], _∷_}
 use lib.ListN.{getD}
 use Rattle.text.specs.Input.{Shape, shapes}
 
--- so many tables
-abbrev pub tableCount : ℕ
-tableCount = 10
-
 -- past the last table
 abbrev pub noShape : Shape
 noShape = record { width = 0; limit = 0 }

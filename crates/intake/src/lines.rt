@@ -1,11 +1,12 @@
 // One whole line of the text: the start mode, a count, or a number of a table.
 ghost use Prim.Native.Nat.{_<_};
 ghost use mathlib.Core.Path.{_≡_};
-ghost use Rattle.intake.specs.Shapes.{tableCount};
+ghost use Rattle.cells.specs.Limits.{tableCount};
 ghost use Rattle.intake.specs.Change.{withStart, withTable};
 ghost use Rattle.intake.specs.Line.{fed, storedOf, countedOf, tookOf};
 use crate::shape;
 use crate::state::Intake;
+use cells::limits::Program;
 use cells::table;
 use text::number::Signed;
 
@@ -58,7 +59,7 @@ fn counted(i: Intake, z: i32) -> Intake
     ensures { λ r. ⌜ r ≡ countedOf i z ⌝ }
 {
     let k = i.table;
-    if shape::TABLES <= k {
+    if Program::TABLES <= k {
         return i.as_bad();
     }
     let rows = table::index(z);

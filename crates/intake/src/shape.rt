@@ -13,37 +13,7 @@ use cells::columns::task;
 use cells::columns::task_port;
 use cells::columns::update;
 use cells::limits::Program;
-
-// So many tables.
-pub const TABLES: usize = 10;
-
-// How many numbers a row of each has.
-pub const WIDTHS: [usize; TABLES] = [
-    port::WIDTH,
-    task::WIDTH,
-    task_port::WIDTH,
-    driver::WIDTH,
-    copy::WIDTH,
-    mode::WIDTH,
-    mode_port::WIDTH,
-    invocation::WIDTH,
-    update::WIDTH,
-    switch::WIDTH,
-];
-
-// Most rows of each.
-pub const LIMITS: [usize; TABLES] = [
-    Program::PORTS,
-    Program::TASKS,
-    Program::TASK_PORTS,
-    Program::DRIVERS,
-    Program::COPIES,
-    Program::MODES,
-    Program::MODE_PORTS,
-    Program::INVOCATIONS,
-    Program::UPDATES,
-    Program::SWITCHES,
-];
+use cells::tables;
 
 // The numbers of all ten, each with its most rows: a room of so many never is too short.
 pub const ROOM: usize = Program::PORTS * port::WIDTH
@@ -61,8 +31,8 @@ pub const ROOM: usize = Program::PORTS * port::WIDTH
 pub fn width(table: usize) -> usize
     ensures { λ r. ⌜ r ≡ shapeAt table .width ⌝ }
 {
-    if table < TABLES {
-        return WIDTHS[table];
+    if table < Program::TABLES {
+        return tables::WIDTHS[table];
     }
     0
 }
@@ -71,8 +41,8 @@ pub fn width(table: usize) -> usize
 pub fn limit(table: usize) -> usize
     ensures { λ r. ⌜ r ≡ shapeAt table .limit ⌝ }
 {
-    if table < TABLES {
-        return LIMITS[table];
+    if table < Program::TABLES {
+        return tables::LIMITS[table];
     }
     0
 }

@@ -2,7 +2,7 @@
 ghost use mathlib.Core.Path.{_≡_};
 ghost use Rattle.intake.specs.Change.{startIntake, asBad, asTooMany};
 ghost use Rattle.intake.specs.Line.{isDecided, isComplete};
-use crate::shape::TABLES;
+use cells::limits::Program;
 use text::number::Part;
 
 // The text so far.
@@ -21,8 +21,8 @@ pub struct Intake {
     // The next free place of the room.
     pub at: usize,
     // Where each table begins in the room, and how many numbers it has.
-    pub begins: [usize; TABLES],
-    pub lens: [usize; TABLES],
+    pub begins: [usize; Program::TABLES],
+    pub lens: [usize; Program::TABLES],
 }
 
 impl Intake {
@@ -39,8 +39,8 @@ impl Intake {
             table: 0,
             left: 0,
             at: 0,
-            begins: [0; TABLES],
-            lens: [0; TABLES],
+            begins: [0; Program::TABLES],
+            lens: [0; Program::TABLES],
         }
     }
 
@@ -55,7 +55,11 @@ impl Intake {
     pub fn complete(self) -> bool
         ensures { λ r. ⌜ r ≡ isComplete self ⌝ }
     {
-        !self.bad & !self.too_many & self.started & (self.table == TABLES) & (self.left == 0)
+        !self.bad
+            & !self.too_many
+            & self.started
+            & (self.table == Program::TABLES)
+            & (self.left == 0)
     }
 
     // The text is bad.

@@ -21,10 +21,6 @@ use Rattle.layout.specs.declared.counts.Counts.{Counts}
 use Rattle.layout.specs.Few.{Few, Sized}
 use Rattle.layout.specs.Counts.{countsIn, beforeEntry, sizeOf, mostBlock, mostMode}
 
--- a program that has these tables
-abbrev pub lent : List ℤ → List ℤ → List ℤ → List ℤ → Tables
-lent modes invocations updates switches = tables [] [] [] [] [] modes [] invocations updates switches (pos 0)
-
 -- a number that equals one within a bound is within it
 pub told-most : {r x b : ℕ} → r ≡ x → x ≤ b → r ≤ b
 told-most e l = omega arith
@@ -59,7 +55,7 @@ module _ (invocations updates switches : List ℤ) (sensors m u : ℕ) (few : Fe
 pub units-told : (m : ℕ) {r : ℕ} {invocations updates switches : List ℤ}
     → ((T : Tables) → T .invocations ≡ invocations → T .updates ≡ updates → T .switches ≡ switches → r ≡ units T m) → (1 ≤ r) × (r ≤ suc maxUnits)
 units-told m {r} {invocations} {updates} {switches} told =
-    let T = lent [] invocations updates switches in
+    let T = tables [] [] [] [] [] [] [] invocations updates switches (pos 0) in
     let e = told T refl refl refl in (omega (arith, units-some T m), omega (arith, units-within T m))
 
 module _ (T : Tables) (e : shapeBad T ≡ false) where

@@ -8,7 +8,6 @@ use mathlib.Core.Option.{Option}
 use native.Mathlib.Nat.{add-zero}
 use native.Mathlib.Omega.{arith}
 use lib.Dec.{leb}
-use lib.IntN.{ℤ}
 use lib.ListN.{length, set}
 use borrow.Author.Tests.{leb-true, le-leb}
 use Rattle.theory.specs.Lists.{Every, cat}
@@ -29,7 +28,7 @@ use Rattle.code.proofs.Futures.{Plain, head-plain, tests-plain, body-plain, stu
 use Rattle.layout.specs.Counts.{countsIn, countsOf, beforeFuture}
 use Rattle.layout.specs.Layout.{unitCounts}
 use Rattle.layout.specs.Delays.{mark, marked, walked, unitsMarked, heldPeriod, ticksIn, modesMarked}
-use Rattle.layout.proofs.Laid.{counts-lent, counts-mode, size-mode}
+use Rattle.layout.proofs.Laid.{counts-mode, size-mode}
 use Rattle.layout.proofs.Walked.{walked-same}
 
 -- a held period is within the limit
@@ -46,13 +45,13 @@ held-small : (n : ℕ) → n ≤ maxPeriod → heldPeriod n ≡ n
 unfolding heldPeriod
 held-small n l = simp (le-leb n maxPeriod l)
 
--- the marks that were counted of the lent tables are those of the program that has them
-pub marks-lent : (T : Tables) {invocations updates switches : List ℤ} {own u m period : ℕ} (sensors at : ℕ) (table : List ℕ)
-    → T .invocations ≡ invocations → T .updates ≡ updates → T .switches ≡ switches → own ≡ m → u ≡ units T m → period ≡ heldPeriod (modePeriod T m)
-    → unitsMarked (countsIn invocations updates switches sensors own u) (period / u) at u table
+-- the marks of a mode by its name, its units and its period
+pub marks-named : (T : Tables) {own u m period : ℕ} (sensors at : ℕ) (table : List ℕ)
+    → own ≡ m → u ≡ units T m → period ≡ heldPeriod (modePeriod T m)
+    → unitsMarked (countsIn (T .invocations) (T .updates) (T .switches) sensors own u) (period / u) at u table
     ≡ unitsMarked (unitCounts T sensors m) (ticksIn T m) at (units T m) table
-marks-lent T sensors at table e f g h q p =
-    λ j. unitsMarked (λ k. counts-lent T sensors e f g h q k j) (p j / q j) at (q j) table
+marks-named T sensors at table h q p =
+    λ j. unitsMarked (countsIn (T .invocations) (T .updates) (T .switches) sensors (h j) (q j)) (p j / q j) at (q j) table
 
 -- the marks of one piece, and then of the next
 marked-append : (xs ys : List Op) (a : ℕ) (table : List ℕ) → marked (xs ++ ys) a table ≡ marked ys (a + length xs) (marked xs a table)

@@ -1,11 +1,12 @@
 // Where each mode of the listing begins and is entered, and how long the listing is: one walk over the modes.
 ghost use mathlib.Core.Path.{_≡_};
 ghost use Prim.Native.Nat.{_≤_, _<_};
+ghost use lib.IntN.{ℤ};
 ghost use lib.ListN.{length};
-ghost use Rattle.cells.specs.Cell.{rowsIn};
 ghost use Rattle.cells.specs.Limits.{maxPorts, maxModes};
-ghost use Rattle.program.specs.Tables.{Tables, modeWidth, modeCount};
+ghost use Rattle.program.specs.Tables.{Tables, tablesIn, modeCount};
 ghost use Rattle.program.specs.Program.{programOf};
+ghost use Rattle.rules.specs.Shape.{InShape};
 ghost use Rattle.layout.specs.Counts.{mostCode};
 ghost use Rattle.layout.specs.Few.{Few};
 ghost use Rattle.layout.specs.Layout.{laidMore, laidModes, LaidOut, Small};
@@ -13,6 +14,7 @@ use crate::counts;
 use cells::columns::mode;
 use cells::kinds::Mode;
 use cells::limits::Program;
+use cells::tables;
 use program::multiples;
 
 // Where the first block of each mode begins, where its unit 0 is entered, how many instructions there are.
@@ -52,24 +54,18 @@ fn one_more(
 }
 
 // The layout of all modes, one after the other, behind the jump at address 0.
-pub fn lay_out(
-    modes: &[i32],
-    invocations: &[i32],
-    updates: &[i32],
-    switches: &[i32],
-    sensors: usize,
-) -> Layout
-    requires { ⌜ Few (now invocations) (now updates) (now switches) ⌝ }
-    requires { ⌜ rowsIn modeWidth (now modes) ≤ maxModes ⌝ }
+pub fn lay_out(tables: &[&[i32]; Program::TABLES], sensors: usize) -> Layout
+    requires { ⌜ InShape (now tables) ⌝ }
     requires { ⌜ sensors ≤ maxPorts ⌝ }
-    ensures all { λ r. ⌜ ((T : Tables) → T .modes ≡ now (modes .entry) → T .invocations ≡ now (invocations .entry)
-        → T .updates ≡ now (updates .entry) → T .switches ≡ now (switches .entry) → r ≡ laidModes T sensors (modeCount T)) ⌝ }
-    ensures laid { λ r. ⌜ ((T : Tables) → T .modes ≡ now (modes .entry) → T .invocations ≡ now (invocations .entry)
-        → T .updates ≡ now (updates .entry) → T .switches ≡ now (switches .entry) → sensors ≡ length (programOf T .sensors)
-        → LaidOut T r) ⌝ }
+    ensures all { λ r. ⌜ ((start : ℤ) → let T = tablesIn (now (tables .entry)) start in r ≡ laidModes T sensors (modeCount T)) ⌝ }
+    ensures laid { λ r. ⌜ ((start : ℤ) → let T = tablesIn (now (tables .entry)) start in
+        sensors ≡ length (programOf T .sensors) → LaidOut T r) ⌝ }
     ensures small { λ r. ⌜ Small r ⌝ }
 {
-    let n = modes.len() / mode::WIDTH;
+    let invocations = tables[tables::INVOCATIONS];
+    let updates = tables[tables::UPDATES];
+    let switches = tables[tables::SWITCHES];
+    let n = tables[tables::MODES].len() / mode::WIDTH;
     let none = [0; Program::MODES];
     let mut at = Layout {
         starts: none,

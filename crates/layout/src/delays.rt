@@ -1,14 +1,16 @@
 // The delay of the `future` at each address of the compiled code, as a table that is filled from the program's tables.
 ghost use mathlib.Core.Path.{_≡_};
 ghost use Prim.Native.Nat.{suc, _+_, _≤_, _<_};
+ghost use lib.IntN.{ℤ};
 ghost use lib.ListN.{length, set};
 ghost use Rattle.theory.specs.Lists.{sum};
 ghost use Rattle.theory.specs.Verdict.{acceptedNumber};
-ghost use Rattle.cells.specs.Cell.{rowsIn, wordAt, greatestWord};
+ghost use Rattle.cells.specs.Cell.{wordAt, greatestWord};
 ghost use Rattle.cells.specs.Limits.{maxPorts, maxModes, maxUnits};
-ghost use Rattle.program.specs.Tables.{Tables, portWidth, modeWidth, modeCount};
+ghost use Rattle.program.specs.Tables.{tablesIn, modeCount};
 ghost use Rattle.program.specs.Sets.{sensorRows};
 ghost use Rattle.program.specs.Units.{units};
+ghost use Rattle.rules.specs.Shape.{InShape};
 ghost use Rattle.rules.specs.Verdict.{programVerdict};
 ghost use Rattle.code.specs.Compile.{listingOf};
 ghost use Rattle.layout.specs.Counts.{countsIn, beforeFuture, sizeOf, mostMode, mostCode};
@@ -21,6 +23,7 @@ use cells::columns::mode;
 use cells::kinds::Mode;
 use cells::limits::Program;
 use cells::table;
+use cells::tables;
 use program::multiples;
 
 // A period, held at the limit, so that a unit's ticks fit a word whatever the tables say.
@@ -79,28 +82,26 @@ fn mark_units(
 
 // The same for mode m of the tables, with its units and its period. Where the mode ends.
 fn mark_mode(
-    modes: &[i32],
-    invocations: &[i32],
-    updates: &[i32],
-    switches: &[i32],
+    tables: &[&[i32]; Program::TABLES],
     sensors: usize,
     m: usize,
     at: usize,
     delays: &mut [u32],
 ) -> usize
-    requires { ⌜ Few (now invocations) (now updates) (now switches) ⌝ }
+    requires { ⌜ InShape (now tables) ⌝ }
     requires { ⌜ sensors ≤ maxPorts ⌝ }
     requires { ⌜ m < maxModes ⌝ }
     requires { ⌜ at + mostMode ≤ mostCode ⌝ }
-    ensures marks { λ _. ⌜ ((T : Tables) → T .modes ≡ now (modes .entry) → T .invocations ≡ now (invocations .entry)
-        → T .updates ≡ now (updates .entry) → T .switches ≡ now (switches .entry)
-        → now (delays .exit) ≡ unitsMarked (unitCounts T sensors m) (ticksIn T m) at (units T m) (now (delays .entry))) ⌝ }
-    ensures end { λ r. ⌜ ((T : Tables) → T .invocations ≡ now (invocations .entry) → T .updates ≡ now (updates .entry)
-        → T .switches ≡ now (switches .entry) → r ≡ at + sizeIn T sensors m) ⌝ }
+    ensures marks { λ _. ⌜ ((start : ℤ) → let T = tablesIn (now (tables .entry)) start in
+        now (delays .exit) ≡ unitsMarked (unitCounts T sensors m) (ticksIn T m) at (units T m) (now (delays .entry))) ⌝ }
+    ensures end { λ r. ⌜ ((start : ℤ) → r ≡ at + sizeIn (tablesIn (now (tables .entry)) start) sensors m) ⌝ }
 {
+    let invocations = tables[tables::INVOCATIONS];
+    let updates = tables[tables::UPDATES];
+    let switches = tables[tables::SWITCHES];
     let own = Mode::of(m);
     let u = multiples::units(invocations, updates, switches, own);
-    let period = held(table::field(modes, mode::WIDTH, m, mode::PERIOD));
+    let period = held(table::field(tables[tables::MODES], mode::WIDTH, m, mode::PERIOD));
     let ticks = period / u;
     mark_units(
         invocations,
@@ -117,39 +118,19 @@ fn mark_mode(
 
 // The delay of each `future` put at its address, counted from the tables; the other places stay as they are. Of an accepted program
 // these are the delays of the compiled code.
-pub fn fill(
-    ports: &[i32],
-    modes: &[i32],
-    invocations: &[i32],
-    updates: &[i32],
-    switches: &[i32],
-    delays: &mut [u32],
-)
-    requires { ⌜ Few (now invocations) (now updates) (now switches) ⌝ }
-    requires { ⌜ rowsIn modeWidth (now modes) ≤ maxModes ⌝ }
-    requires { ⌜ rowsIn portWidth (now ports) ≤ maxPorts ⌝ }
-    ensures counted { λ _. ⌜ ((T : Tables) → T .ports ≡ now (ports .entry) → T .modes ≡ now (modes .entry)
-        → T .invocations ≡ now (invocations .entry) → T .updates ≡ now (updates .entry) → T .switches ≡ now (switches .entry)
-        → now (delays .exit) ≡ modesMarked T (length (sensorRows (T .ports) (λ p. p))) (modeCount T) (now (delays .entry))) ⌝ }
-    ensures listed { λ _. ⌜ ((T : Tables) → T .ports ≡ now (ports .entry) → T .modes ≡ now (modes .entry)
-        → T .invocations ≡ now (invocations .entry) → T .updates ≡ now (updates .entry) → T .switches ≡ now (switches .entry)
-        → programVerdict T ≡ acceptedNumber → now (delays .exit) ≡ marked (listingOf T) 0 (now (delays .entry))) ⌝ }
+pub fn fill(tables: &[&[i32]; Program::TABLES], delays: &mut [u32])
+    requires { ⌜ InShape (now tables) ⌝ }
+    ensures counted { λ _. ⌜ ((start : ℤ) → let T = tablesIn (now (tables .entry)) start in
+        now (delays .exit) ≡ modesMarked T (length (sensorRows (T .ports) (λ p. p))) (modeCount T) (now (delays .entry))) ⌝ }
+    ensures listed { λ _. ⌜ ((start : ℤ) → let T = tablesIn (now (tables .entry)) start in
+        programVerdict T ≡ acceptedNumber → now (delays .exit) ≡ marked (listingOf T) 0 (now (delays .entry))) ⌝ }
 {
-    let sensors = counts::sensors(ports);
-    let n = modes.len() / mode::WIDTH;
+    let sensors = counts::sensors(tables[tables::PORTS]);
+    let n = tables[tables::MODES].len() / mode::WIDTH;
     let mut at = 1;
     let mut m = 0;
     while m < n {
-        at = mark_mode(
-            modes,
-            invocations,
-            updates,
-            switches,
-            sensors,
-            m,
-            at,
-            delays,
-        );
+        at = mark_mode(tables, sensors, m, at, delays);
         m += 1;
     }
 }

@@ -55,7 +55,8 @@ pub record Worked (P : Program) (results : List ℤ) (t : ℕ) (s u : State) : T
   -- completing, its local outputs take its results; no other local output changes, and without completing none does
   pub completes : leftOf (s .left) t ≡ 1 → (p : ℕ) → p < length (s .outputs) → member p (task P t .outputs) ≡ true
       → valueOf (u .outputs) p ≡ valueOf results p
-  pub stays : (p : ℕ) → (member p (task P t .outputs) ≡ false) ⊎ (leftOf (s .left) t ≡ 1 → ⊥) → valueOf (u .outputs) p ≡ valueOf (s .outputs) p
+  pub stays : (p : ℕ) → (member p (task P t .outputs) ≡ false) ⊎ (leftOf (s .left) t ≡ 1 → ⊥)
+      → valueOf (u .outputs) p ≡ valueOf (s .outputs) p
 
 -- a tick in which these run
 abbrev pub Works : Program → List ℤ → Who → State → State → Type 0

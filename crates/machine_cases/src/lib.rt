@@ -1,6 +1,6 @@
-// The kinds of cases of the machine: `fresh`, `advance`, `run` and `long`.
+// The kinds of cases of a program and of the machine: `verdict`, `fresh`, `advance`, `run` and `long`.
 pub mod advance;
-pub mod fresh;
 mod lines;
 pub mod long;
+pub mod programs;
 mod systems;

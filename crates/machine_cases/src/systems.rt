@@ -1,10 +1,8 @@
 // What the kinds of the machine read: a program, E code, joined schedule and state; and what is lent to a tick.
-use cases::room;
 use cases::states;
 use cases::stream::Reader;
 use cases::tables;
 use cases::tables::Lengths;
-use cases::words;
 use cells::parts::least;
 use cells::parts::part;
 use machine::Advanced;
@@ -35,7 +33,7 @@ struct Listed {
 }
 
 fn read_code(r: Reader, buffer: &mut [u8], code: &mut [u32], rows: &mut [i32]) -> Listed {
-    let own_code = words::slice(r, buffer, code);
+    let own_code = tables::words(r, buffer, code);
     let own_rows = tables::slice(own_code.reader, buffer, rows);
     let reader = own_rows.reader;
     Listed {
@@ -104,17 +102,8 @@ pub fn advanced(
     times: &[i32],
 ) -> Advanced {
     operation::advance(
-        part(room, room::PORTS_AT, l.ports),
-        part(room, room::TASKS_AT, l.tasks),
-        part(room, room::TASK_PORTS_AT, l.task_ports),
-        part(room, room::DRIVERS_AT, l.drivers),
-        part(room, room::COPIES_AT, l.copies),
-        part(room, room::MODES_AT, l.modes),
-        part(room, room::MODE_PORTS_AT, l.mode_ports),
-        part(room, room::INVOCATIONS_AT, l.invocations),
-        part(room, room::UPDATES_AT, l.updates),
-        part(room, room::SWITCHES_AT, l.switches),
-        l.start,
+        &tables::lent(l, room),
+        l.program,
         code,
         rows,
         s,

@@ -1,15 +1,19 @@
 // Number 6: what an invocation row breaks, by itself and against the rows before it.
 ghost use mathlib.Core.Path.{_≡_};
+ghost use lib.IntN.{ℤ};
 ghost use Rattle.theory.specs.Search.{any, first};
-ghost use Rattle.program.specs.Tables.{Tables, invocationCount};
+ghost use Rattle.program.specs.Tables.{Tables, tablesIn, invocationCount};
 ghost use Rattle.rules.specs.Modes.{invocationClash, invocationWrong};
 use cells::columns::invocation;
+use cells::limits::Program;
 use cells::table;
+use cells::tables;
 use links::destinations;
 use links::sources;
 use links::task_ports;
 use program::guard;
 use program::members;
+use program::rows;
 
 // Rows i and j of one mode have one task or share an output.
 fn invocation_clash(
@@ -46,19 +50,15 @@ fn has_invocation_clash(ports: &[i32], task_ports: &[i32], invocations: &[i32], 
 }
 
 // Row i breaks the rule.
-fn invocation_wrong(
-    ports: &[i32],
-    task_ports: &[i32],
-    drivers: &[i32],
-    copies: &[i32],
-    mode_ports: &[i32],
-    invocations: &[i32],
-    i: usize,
-) -> bool
-    ensures { λ r. ⌜ ((T : Tables) → T .ports ≡ now (ports .entry) → T .taskPorts ≡ now («task_ports» .entry)
-        → T .drivers ≡ now (drivers .entry) → T .copies ≡ now (copies .entry) → T .modePorts ≡ now («mode_ports» .entry)
-        → T .invocations ≡ now (invocations .entry) → r ≡ invocationWrong T i) ⌝ }
+fn invocation_wrong(tables: &[&[i32]; Program::TABLES], i: usize) -> bool
+    ensures { λ r. ⌜ ((start : ℤ) → r ≡ invocationWrong (tablesIn (now (tables .entry)) start) i) ⌝ }
 {
+    let ports = tables[tables::PORTS];
+    let task_ports = tables[tables::TASK_PORTS];
+    let drivers = tables[tables::DRIVERS];
+    let copies = tables[tables::COPIES];
+    let mode_ports = tables[tables::MODE_PORTS];
+    let invocations = tables[tables::INVOCATIONS];
     let m = table::mode(invocations, invocation::WIDTH, i, invocation::MODE);
     let t = table::task(invocations, invocation::WIDTH, i, invocation::TASK);
     let d = table::driver(invocations, invocation::WIDTH, i, invocation::DRIVER);
@@ -72,30 +72,13 @@ fn invocation_wrong(
 }
 
 // The lowest row that does; the number of rows where none does.
-pub fn first_wrong_invocation(
-    ports: &[i32],
-    task_ports: &[i32],
-    drivers: &[i32],
-    copies: &[i32],
-    mode_ports: &[i32],
-    invocations: &[i32],
-) -> usize
-    ensures { λ r. ⌜ ((T : Tables) → T .ports ≡ now (ports .entry) → T .taskPorts ≡ now («task_ports» .entry)
-        → T .drivers ≡ now (drivers .entry) → T .copies ≡ now (copies .entry) → T .modePorts ≡ now («mode_ports» .entry)
-        → T .invocations ≡ now (invocations .entry) → r ≡ first (invocationWrong T) (invocationCount T)) ⌝ }
+pub fn first_wrong_invocation(tables: &[&[i32]; Program::TABLES]) -> usize
+    ensures { λ r. ⌜ ((start : ℤ) → let T = tablesIn (now (tables .entry)) start in r ≡ first (invocationWrong T) (invocationCount T)) ⌝ }
 {
-    let n = invocations.len() / invocation::WIDTH;
+    let n = rows::count(tables, tables::INVOCATIONS);
     let mut i = 0;
     while i < n {
-        if invocation_wrong(
-            ports,
-            task_ports,
-            drivers,
-            copies,
-            mode_ports,
-            invocations,
-            i,
-        ) {
+        if invocation_wrong(tables, i) {
             return i;
         }
         i += 1;

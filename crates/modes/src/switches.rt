@@ -1,15 +1,19 @@
 // Number 8: what a switch row breaks, by itself and against the rows before it.
 ghost use mathlib.Core.Path.{_≡_};
+ghost use lib.IntN.{ℤ};
 ghost use Rattle.theory.specs.Search.{any, first};
-ghost use Rattle.program.specs.Tables.{Tables, switchCount};
+ghost use Rattle.program.specs.Tables.{Tables, tablesIn, switchCount};
 ghost use Rattle.rules.specs.Modes.{switchClash, switchWrong};
 use cells::columns::switch;
+use cells::limits::Program;
 use cells::table;
+use cells::tables;
 use links::destinations;
 use links::mode_ports;
 use links::sources;
 use program::guard;
 use program::members;
+use program::rows;
 
 // The guards of rows i and j of one mode can hold for one valuation.
 fn switch_clash(drivers: &[i32], switches: &[i32], i: usize, j: usize) -> bool
@@ -39,18 +43,14 @@ fn has_switch_clash(drivers: &[i32], switches: &[i32], i: usize) -> bool
 }
 
 // Row i breaks the rule.
-fn switch_wrong(
-    ports: &[i32],
-    drivers: &[i32],
-    copies: &[i32],
-    mode_ports: &[i32],
-    switches: &[i32],
-    i: usize,
-) -> bool
-    ensures { λ r. ⌜ ((T : Tables) → T .ports ≡ now (ports .entry) → T .drivers ≡ now (drivers .entry)
-        → T .copies ≡ now (copies .entry) → T .modePorts ≡ now («mode_ports» .entry) → T .switches ≡ now (switches .entry)
-        → r ≡ switchWrong T i) ⌝ }
+fn switch_wrong(tables: &[&[i32]; Program::TABLES], i: usize) -> bool
+    ensures { λ r. ⌜ ((start : ℤ) → r ≡ switchWrong (tablesIn (now (tables .entry)) start) i) ⌝ }
 {
+    let ports = tables[tables::PORTS];
+    let drivers = tables[tables::DRIVERS];
+    let copies = tables[tables::COPIES];
+    let mode_ports = tables[tables::MODE_PORTS];
+    let switches = tables[tables::SWITCHES];
     let m = table::mode(switches, switch::WIDTH, i, switch::MODE);
     let target = table::mode(switches, switch::WIDTH, i, switch::TARGET);
     let d = table::driver(switches, switch::WIDTH, i, switch::DRIVER);
@@ -62,21 +62,13 @@ fn switch_wrong(
 }
 
 // The lowest row that does; the number of rows where none does.
-pub fn first_wrong_switch(
-    ports: &[i32],
-    drivers: &[i32],
-    copies: &[i32],
-    mode_ports: &[i32],
-    switches: &[i32],
-) -> usize
-    ensures { λ r. ⌜ ((T : Tables) → T .ports ≡ now (ports .entry) → T .drivers ≡ now (drivers .entry)
-        → T .copies ≡ now (copies .entry) → T .modePorts ≡ now («mode_ports» .entry) → T .switches ≡ now (switches .entry)
-        → r ≡ first (switchWrong T) (switchCount T)) ⌝ }
+pub fn first_wrong_switch(tables: &[&[i32]; Program::TABLES]) -> usize
+    ensures { λ r. ⌜ ((start : ℤ) → let T = tablesIn (now (tables .entry)) start in r ≡ first (switchWrong T) (switchCount T)) ⌝ }
 {
-    let n = switches.len() / switch::WIDTH;
+    let n = rows::count(tables, tables::SWITCHES);
     let mut i = 0;
     while i < n {
-        if switch_wrong(ports, drivers, copies, mode_ports, switches, i) {
+        if switch_wrong(tables, i) {
             return i;
         }
         i += 1;

@@ -1,13 +1,17 @@
 // Number 7: what an update row breaks, by itself and against the rows before it.
 ghost use mathlib.Core.Path.{_≡_};
+ghost use lib.IntN.{ℤ};
 ghost use Rattle.theory.specs.Search.{any, first};
-ghost use Rattle.program.specs.Tables.{Tables, updateCount};
+ghost use Rattle.program.specs.Tables.{Tables, tablesIn, updateCount};
 ghost use Rattle.rules.specs.Modes.{updateClash, updateWrong};
 use cells::columns::update;
+use cells::limits::Program;
 use cells::table;
+use cells::tables;
 use links::destinations;
 use links::sources;
 use program::members;
+use program::rows;
 
 // Rows i and j of one mode share a destination.
 fn update_clash(copies: &[i32], updates: &[i32], i: usize, j: usize) -> bool
@@ -36,18 +40,14 @@ fn has_update_clash(copies: &[i32], updates: &[i32], i: usize) -> bool
 }
 
 // Row i breaks the rule.
-fn update_wrong(
-    ports: &[i32],
-    drivers: &[i32],
-    copies: &[i32],
-    mode_ports: &[i32],
-    updates: &[i32],
-    i: usize,
-) -> bool
-    ensures { λ r. ⌜ ((T : Tables) → T .ports ≡ now (ports .entry) → T .drivers ≡ now (drivers .entry)
-        → T .copies ≡ now (copies .entry) → T .modePorts ≡ now («mode_ports» .entry) → T .updates ≡ now (updates .entry)
-        → r ≡ updateWrong T i) ⌝ }
+fn update_wrong(tables: &[&[i32]; Program::TABLES], i: usize) -> bool
+    ensures { λ r. ⌜ ((start : ℤ) → r ≡ updateWrong (tablesIn (now (tables .entry)) start) i) ⌝ }
 {
+    let ports = tables[tables::PORTS];
+    let drivers = tables[tables::DRIVERS];
+    let copies = tables[tables::COPIES];
+    let mode_ports = tables[tables::MODE_PORTS];
+    let updates = tables[tables::UPDATES];
     let m = table::mode(updates, update::WIDTH, i, update::MODE);
     let d = table::driver(updates, update::WIDTH, i, update::DRIVER);
     let sources = sources::some_source_no_mode_port(drivers, copies, mode_ports, m, d);
@@ -57,21 +57,13 @@ fn update_wrong(
 }
 
 // The lowest row that does; the number of rows where none does.
-pub fn first_wrong_update(
-    ports: &[i32],
-    drivers: &[i32],
-    copies: &[i32],
-    mode_ports: &[i32],
-    updates: &[i32],
-) -> usize
-    ensures { λ r. ⌜ ((T : Tables) → T .ports ≡ now (ports .entry) → T .drivers ≡ now (drivers .entry)
-        → T .copies ≡ now (copies .entry) → T .modePorts ≡ now («mode_ports» .entry) → T .updates ≡ now (updates .entry)
-        → r ≡ first (updateWrong T) (updateCount T)) ⌝ }
+pub fn first_wrong_update(tables: &[&[i32]; Program::TABLES]) -> usize
+    ensures { λ r. ⌜ ((start : ℤ) → let T = tablesIn (now (tables .entry)) start in r ≡ first (updateWrong T) (updateCount T)) ⌝ }
 {
-    let n = updates.len() / update::WIDTH;
+    let n = rows::count(tables, tables::UPDATES);
     let mut i = 0;
     while i < n {
-        if update_wrong(ports, drivers, copies, mode_ports, updates, i) {
+        if update_wrong(tables, i) {
             return i;
         }
         i += 1;

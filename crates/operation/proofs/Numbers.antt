@@ -5,25 +5,31 @@ use mathlib.Core.Path.{_≡_, sym, ap, _∙_}
 use mathlib.Core.Bool.{true, false}
 use mathlib.Core.List.{List, [], _∷_, _++_, map}
 use native.Mathlib.Omega.{arith}
+use lib.IntN.{ℤ}
 use lib.ListN.{length}
+use denote.Ref.{RefT}
 use Rattle.theory.specs.Verdict.{acceptedNumber, Refusal, orElse, within, after}
 use Rattle.theory.proofs.Bools.{bars-iff}
 use Rattle.theory.proofs.Conditions.{or-else-yes, or-else-no}
 use Rattle.theory.proofs.Verdict.{after-given, verdict-clear, verdict-both}
-use Rattle.cells.specs.Limits.{maxDrivers, maxCode, wordsEach}
+use Rattle.cells.specs.Limits.{maxCode, wordsEach}
 use Rattle.cells.specs.Refusals.{shapeRefused, scheduleRefused, stateRefused}
-use Rattle.program.specs.Tables.{driverWidth}
-use Rattle.rules.specs.Shape.{shapeBad}
+use Rattle.program.specs.Tables.{tablesIn}
+use Rattle.rules.specs.Shape.{shapeBad, InShape}
 use Rattle.rules.specs.Verdict.{tableRefusals}
-use Rattle.rules.proofs.Shape.{shape-bars, whole-few, ports-few, tasks-few}
+use Rattle.rules.proofs.Shape.{shape-bars, whole-few}
 use Rattle.code.specs.Compile.{longRefusal}
 use Rattle.lent.specs.Tables.{lentVerdict}
 use Rattle.lent.proofs.Asked.{lent-first}
 use Rattle.suppliers.specs.Schedule.{joinedBad, Rows}
 use Rattle.suppliers.proofs.Schedule.{joined-bars}
-use Rattle.machine.specs.Advance.{Advance, advanceShapeBad, AdvanceShaped, stateBad, StateFits, runRefusals, advanceRefusals, advanceVerdict}
+use Rattle.machine.specs.Advance.{Advance, advanceShapeBad, stateBad, StateFits, runRefusals, advanceRefusals, advanceVerdict}
 use Rattle.machine.proofs.Fits.{advance-shape-bars, state-bars}
-use Rattle.instants.specs.Step.{Named}
+
+-- tables that have their shape with one start mode have it with any
+pub any-start : (lent : List (RefT (List ℤ))) (start : ℤ) → shapeBad (tablesIn lent start) ≡ false → InShape lent
+unfolding shapeBad
+any-start lent start e z = e
 
 -- 1, then 2 to 11 of the tables, then 13 and 21
 advance-number : (L : Advance)
@@ -62,21 +68,17 @@ before =
 
 module _ (L : Advance) (e : advanceVerdict L ≡ acceptedNumber) where
   -- everything has its shape
-  pub runs-shaped : AdvanceShaped L
+  in-shape : advanceShapeBad L ≡ false
   unfolding advanceVerdict
-  runs-shaped = advance-shape-bars L .ok (verdict-clear advanceRefusals L (omega arith) e .0)
+  in-shape = verdict-clear advanceRefusals L (omega arith) e .0
 
-  -- so every number of a port, task or driver that is declared fits its kind
-  pub runs-named : Named (L .tables .ports) (L .tables .tasks) (L .tables .drivers)
-  runs-named = record {
-    few-ports = ports-few (L .tables) (runs-shaped .tables);
-    few-tasks = tasks-few (L .tables) (runs-shaped .tables);
-    few-drivers = whole-few driverWidth maxDrivers (L .tables .drivers) (runs-shaped .tables .drivers);
-  }
+  -- so have the tables
+  pub runs-shaped : shapeBad (L .tables) ≡ false
+  runs-shaped = advance-shaped L in-shape
 
   -- and there are no more instructions than the limit
   pub runs-few : length (L .code) / wordsEach ≤ maxCode
-  runs-few = whole-few wordsEach maxCode (L .code) (runs-shaped .code)
+  runs-few = whole-few wordsEach maxCode (L .code) (advance-shape-bars L .ok in-shape .code)
 
   -- neither 13 nor 21 applies
   own-clear : (joinedBad (L .tables) (L .schedule) ≡ false) × (stateBad L ≡ false)

@@ -2,7 +2,7 @@
 ghost use mathlib.Core.Path.{_≡_};
 ghost use lib.IntN.{ℤ};
 ghost use Rattle.cells.specs.Limits.{maxCode, wordsEach};
-ghost use Rattle.program.specs.Tables.{tables};
+ghost use Rattle.program.specs.Tables.{tablesIn};
 ghost use Rattle.rules.specs.Shape.{badSlice};
 ghost use Rattle.machine.specs.declared.State.{State};
 ghost use Rattle.machine.specs.Advance.{advanceShapeBad, advanceVerdict};
@@ -25,39 +25,18 @@ fn bad_code(code: &[u32]) -> bool
 
 // Number 1 of all slices that are lent, whatever the start mode and the state.
 fn shape_bad(
-    ports: &[i32],
-    tasks: &[i32],
-    task_ports: &[i32],
-    drivers: &[i32],
-    copies: &[i32],
-    modes: &[i32],
-    mode_ports: &[i32],
-    invocations: &[i32],
-    updates: &[i32],
-    switches: &[i32],
+    tables: &[&[i32]; Program::TABLES],
     code: &[u32],
     schedule: &[i32],
     readings: &[i32],
     results: &[i32],
     times: &[i32],
 ) -> bool
-    ensures { λ r. ⌜ ((start : ℤ) (s : State) → r ≡ advanceShapeBad (advancing (tables (now (ports .entry)) (now (tasks .entry))
-        (now («task_ports» .entry)) (now (drivers .entry)) (now (copies .entry)) (now (modes .entry)) (now («mode_ports» .entry))
-        (now (invocations .entry)) (now (updates .entry)) (now (switches .entry)) start) (now (code .entry)) (now (schedule .entry)) s
-        (lent (now (readings .entry)) (now (results .entry)) (now (times .entry))))) ⌝ }
+    ensures { λ r. ⌜ ((start : ℤ) (s : State) → let X = lent (now (readings .entry)) (now (results .entry)) (now (times .entry)) in
+        let T = tablesIn (now (tables .entry)) start in
+        r ≡ advanceShapeBad (advancing T (now (code .entry)) (now (schedule .entry)) s X)) ⌝ }
 {
-    slices::shape_bad(
-        ports,
-        tasks,
-        task_ports,
-        drivers,
-        copies,
-        modes,
-        mode_ports,
-        invocations,
-        updates,
-        switches,
-    )
+    slices::shape_bad(tables)
         | bad_code(code)
         | slices::bad_slice(schedule, schedule::WIDTH, Program::SCHEDULE)
         | (readings.len() != Program::PORTS)
@@ -67,17 +46,8 @@ fn shape_bad(
 
 // The first number that applies, or 0.
 pub fn number(
-    ports: &[i32],
-    tasks: &[i32],
-    task_ports: &[i32],
-    drivers: &[i32],
-    copies: &[i32],
-    modes: &[i32],
-    mode_ports: &[i32],
-    invocations: &[i32],
-    updates: &[i32],
-    switches: &[i32],
-    start: i32,
+    tables: &[&[i32]; Program::TABLES],
+    program: Program,
     code: &[u32],
     schedule: &[i32],
     s: State,
@@ -85,55 +55,18 @@ pub fn number(
     results: &[i32],
     times: &[i32],
 ) -> usize
-    ensures { λ r. ⌜ r ≡ advanceVerdict (advancing (tables (now (ports .entry)) (now (tasks .entry)) (now («task_ports» .entry))
-        (now (drivers .entry)) (now (copies .entry)) (now (modes .entry)) (now («mode_ports» .entry)) (now (invocations .entry))
-        (now (updates .entry)) (now (switches .entry)) start) (now (code .entry)) (now (schedule .entry)) s (lent
-        (now (readings .entry)) (now (results .entry)) (now (times .entry)))) ⌝ }
+    ensures { λ r. ⌜ (let X = lent (now (readings .entry)) (now (results .entry)) (now (times .entry)) in
+        let T = tablesIn (now (tables .entry)) (program .start) in
+        r ≡ advanceVerdict (advancing T (now (code .entry)) (now (schedule .entry)) s X)) ⌝ }
 {
-    if shape_bad(
-        ports,
-        tasks,
-        task_ports,
-        drivers,
-        copies,
-        modes,
-        mode_ports,
-        invocations,
-        updates,
-        switches,
-        code,
-        schedule,
-        readings,
-        results,
-        times,
-    ) {
+    if shape_bad(tables, code, schedule, readings, results, times) {
         return refusals::SHAPE;
     }
-    let number = lent::lent_verdict(
-        ports,
-        tasks,
-        task_ports,
-        drivers,
-        copies,
-        modes,
-        mode_ports,
-        invocations,
-        updates,
-        switches,
-        start,
-    );
+    let number = lent::lent_verdict(tables, program);
     if refusals::ACCEPTED < number {
         return number;
     }
-    if joined::refused(
-        ports,
-        tasks,
-        modes,
-        invocations,
-        updates,
-        switches,
-        schedule,
-    ) {
+    if joined::refused(tables, schedule) {
         return refusals::SCHEDULE;
     }
     let instructions = code.len() / Program::WORDS;

@@ -1,17 +1,19 @@
 // The calls on the machine: a fresh state, and an advance of one tick. A refusal hands the state back as it was.
 ghost use mathlib.Core.Path.{_≡_};
 ghost use Prim.Native.Nat.{_<_, _≤_, _/_};
+ghost use lib.IntN.{ℤ};
 ghost use lib.ListN.{length};
 ghost use Rattle.cells.specs.Limits.{wordsEach, maxCode, maxElapsed};
-ghost use Rattle.program.specs.Tables.{Tables, tables};
+ghost use Rattle.program.specs.Tables.{tablesIn};
 ghost use Rattle.program.specs.Program.{programOf};
+ghost use Rattle.rules.specs.Shape.{InShape};
 ghost use Rattle.code.specs.Op.{instructions};
 ghost use Rattle.suppliers.specs.Schedule.{Rows};
 ghost use Rattle.machine.specs.Advance.{stateOf, ready, step, answer, freshAnswer, advanceAnswer};
-ghost use Rattle.instants.specs.Step.{Named};
 ghost use Rattle.operation.specs.Lent.{lent, advancing};
 use cells::limits::Program;
 use cells::refusals;
+use cells::tables;
 use machine::Advanced;
 use machine::State;
 use machine::schedules;
@@ -37,42 +39,16 @@ fn begun(values: [i32; Program::PORTS]) -> State
 }
 
 // A fresh state of an accepted program; refused, all 0. Any slices at all may be lent.
-pub fn fresh(
-    ports: &[i32],
-    tasks: &[i32],
-    task_ports: &[i32],
-    drivers: &[i32],
-    copies: &[i32],
-    modes: &[i32],
-    mode_ports: &[i32],
-    invocations: &[i32],
-    updates: &[i32],
-    switches: &[i32],
-    start: i32,
-) -> Advanced
-    ensures { λ r. ⌜ r ≡ freshAnswer (tables (now (ports .entry)) (now (tasks .entry)) (now («task_ports» .entry))
-        (now (drivers .entry)) (now (copies .entry)) (now (modes .entry)) (now («mode_ports» .entry)) (now (invocations .entry))
-        (now (updates .entry)) (now (switches .entry)) start) ⌝ }
+pub fn fresh(tables: &[&[i32]; Program::TABLES], program: Program) -> Advanced
+    ensures { λ r. ⌜ r ≡ freshAnswer (tablesIn (now (tables .entry)) (program .start)) ⌝ }
 {
-    let number = verdict::program_verdict(
-        ports,
-        tasks,
-        task_ports,
-        drivers,
-        copies,
-        modes,
-        mode_ports,
-        invocations,
-        updates,
-        switches,
-        start,
-    );
+    let number = verdict::program_verdict(tables, program);
     if refusals::ACCEPTED < number {
         let nothing = [0; Program::PORTS];
         let state = begun(nothing);
         return Advanced { number, state };
     }
-    let first = values::first_values(ports);
+    let first = values::first_values(tables[tables::PORTS]);
     let state = begun(first);
     Advanced {
         number: refusals::ACCEPTED,
@@ -82,20 +58,15 @@ pub fn fresh(
 
 // The E code runs if no tick of the unit remains.
 fn ready(
-    ports: &[i32],
-    tasks: &[i32],
-    task_ports: &[i32],
-    drivers: &[i32],
-    copies: &[i32],
+    tables: &[&[i32]; Program::TABLES],
     code: &[u32],
     readings: &[i32],
     times: &[i32],
     s: State,
 ) -> Advanced
-    requires { ⌜ Named (now ports) (now tasks) (now drivers) ⌝ }
-    ensures { λ r. ⌜ ((T : Tables) → T .ports ≡ now (ports .entry) → T .tasks ≡ now (tasks .entry)
-        → T .taskPorts ≡ now («task_ports» .entry) → T .drivers ≡ now (drivers .entry) → T .copies ≡ now (copies .entry)
-        → r ≡ answer s (ready (programOf T) (instructions (now (code .entry))) (now (readings .entry)) (now (times .entry)) s)) ⌝ }
+    requires { ⌜ InShape (now tables) ⌝ }
+    ensures { λ r. ⌜ ((start : ℤ) → let P = programOf (tablesIn (now (tables .entry)) start) in
+        r ≡ answer s (ready P (instructions (now (code .entry))) (now (readings .entry)) (now (times .entry)) s)) ⌝ }
 {
     if 0 < s.remaining {
         return Advanced {
@@ -103,26 +74,12 @@ fn ready(
             state: s,
         };
     }
-    instants::run(
-        ports,
-        tasks,
-        task_ports,
-        drivers,
-        copies,
-        code,
-        readings,
-        times,
-        s,
-    )
+    instants::run(tables, code, readings, times, s)
 }
 
 // The E code, then one tick of the schedules.
 fn step(
-    ports: &[i32],
-    tasks: &[i32],
-    task_ports: &[i32],
-    drivers: &[i32],
-    copies: &[i32],
+    tables: &[&[i32]; Program::TABLES],
     code: &[u32],
     schedule: &[i32],
     s: State,
@@ -130,26 +87,16 @@ fn step(
     results: &[i32],
     times: &[i32],
 ) -> Advanced
-    requires { ⌜ Named (now ports) (now tasks) (now drivers) ⌝ }
+    requires { ⌜ InShape (now tables) ⌝ }
     requires { ⌜ length (now code) / wordsEach ≤ maxCode ⌝ }
     requires { ⌜ s .current < length (now code) / wordsEach ⌝ }
     requires { ⌜ s .elapsed ≤ maxElapsed ⌝ }
-    ensures { λ r. ⌜ ((T : Tables) → T .ports ≡ now (ports .entry) → T .tasks ≡ now (tasks .entry)
-        → T .taskPorts ≡ now («task_ports» .entry) → T .drivers ≡ now (drivers .entry) → T .copies ≡ now (copies .entry)
-        → Rows T (now (schedule .entry)) → r ≡ answer s (step (programOf T) (instructions (now (code .entry))) (now (schedule .entry))
-        (lent (now (readings .entry)) (now (results .entry)) (now (times .entry))) s)) ⌝ }
+    ensures { λ r. ⌜ ((start : ℤ) → let X = lent (now (readings .entry)) (now (results .entry)) (now (times .entry)) in
+        let T = tablesIn (now (tables .entry)) start in
+        Rows T (now (schedule .entry))
+        → r ≡ answer s (step (programOf T) (instructions (now (code .entry))) (now (schedule .entry)) X s)) ⌝ }
 {
-    let begun = ready(
-        ports,
-        tasks,
-        task_ports,
-        drivers,
-        copies,
-        code,
-        readings,
-        times,
-        s,
-    );
+    let begun = ready(tables, code, readings, times, s);
     if refusals::ACCEPTED < begun.number {
         return Advanced {
             number: begun.number,
@@ -157,6 +104,8 @@ fn step(
         };
     }
     let before = begun.state;
+    let ports = tables[tables::PORTS];
+    let task_ports = tables[tables::TASK_PORTS];
     let after = schedules::tick_all(ports, task_ports, schedule, results, before);
     if refusals::ACCEPTED < after.number {
         return Advanced {
@@ -169,17 +118,8 @@ fn step(
 
 // An advance of one tick. Any slices, any words and any state at all may be lent.
 pub fn advance(
-    ports: &[i32],
-    tasks: &[i32],
-    task_ports: &[i32],
-    drivers: &[i32],
-    copies: &[i32],
-    modes: &[i32],
-    mode_ports: &[i32],
-    invocations: &[i32],
-    updates: &[i32],
-    switches: &[i32],
-    start: i32,
+    tables: &[&[i32]; Program::TABLES],
+    program: Program,
     code: &[u32],
     schedule: &[i32],
     s: State,
@@ -187,44 +127,13 @@ pub fn advance(
     results: &[i32],
     times: &[i32],
 ) -> Advanced
-    ensures { λ r. ⌜ r ≡ advanceAnswer (advancing (tables (now (ports .entry)) (now (tasks .entry)) (now («task_ports» .entry))
-        (now (drivers .entry)) (now (copies .entry)) (now (modes .entry)) (now («mode_ports» .entry)) (now (invocations .entry))
-        (now (updates .entry)) (now (switches .entry)) start) (now (code .entry)) (now (schedule .entry)) s (lent
-        (now (readings .entry)) (now (results .entry)) (now (times .entry)))) ⌝ }
+    ensures { λ r. ⌜ (let X = lent (now (readings .entry)) (now (results .entry)) (now (times .entry)) in
+        let T = tablesIn (now (tables .entry)) (program .start) in
+        r ≡ advanceAnswer (advancing T (now (code .entry)) (now (schedule .entry)) s X)) ⌝ }
 {
-    let number = judged::number(
-        ports,
-        tasks,
-        task_ports,
-        drivers,
-        copies,
-        modes,
-        mode_ports,
-        invocations,
-        updates,
-        switches,
-        start,
-        code,
-        schedule,
-        s,
-        readings,
-        results,
-        times,
-    );
+    let number = judged::number(tables, program, code, schedule, s, readings, results, times);
     if refusals::ACCEPTED < number {
         return Advanced { number, state: s };
     }
-    step(
-        ports,
-        tasks,
-        task_ports,
-        drivers,
-        copies,
-        code,
-        schedule,
-        s,
-        readings,
-        results,
-        times,
-    )
+    step(tables, code, schedule, s, readings, results, times)
 }

@@ -2,5 +2,6 @@
 pub mod Sets
 pub mod Guards
 pub mod Units
+pub mod Places
 pub mod Decoded
 pub mod Ports

@@ -8,7 +8,11 @@ use lib.IntN.{ℤ}
 use lib.ListN.{getD}
 use Rattle.theory.specs.Lists.{those, each, keep}
 use Rattle.cells.specs.Limits.{maxPorts}
-use Rattle.program.specs.Tables.{Tables, startMode, portCount, portFirst, sensor, input, output, taskCount, taskSupplier, taskWorst, taskPortCount, tpTask, tpPort, driverCount, copyCount, copyDriver, copySource, copyDestination, modeCount, modePeriod, modePortCount, mpMode, mpPort, invocationCount, invMode, invFrequency, invTask, invDriver, updateCount, updMode, updFrequency, updDriver, switchCount, swMode, swFrequency, swTarget, swDriver}
+use Rattle.program.specs.Tables.{Tables, startMode, portCount, portFirst, sensor, input, output, taskCount, taskSupplier, taskWorst}
+use Rattle.program.specs.Tables.{taskPortCount, tpTask, tpPort, driverCount, copyCount, copyDriver, copySource, copyDestination}
+use Rattle.program.specs.Tables.{modeCount, modePeriod, modePortCount, mpMode, mpPort, invocationCount, invMode, invFrequency}
+use Rattle.program.specs.Tables.{invTask, invDriver, updateCount, updMode, updFrequency, updDriver, switchCount, swMode}
+use Rattle.program.specs.Tables.{swFrequency, swTarget, swDriver}
 use Rattle.program.specs.Guard.{Guard, always, guardOf}
 use Rattle.program.specs.Sets.{isKind}
 use Rattle.program.specs.Units.{units, due}

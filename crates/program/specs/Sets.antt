@@ -11,7 +11,9 @@ use lib.IntN.{ℤ}
 use Rattle.theory.specs.Search.{any}
 use Rattle.theory.specs.Lists.{those}
 use Rattle.cells.specs.Cell.{rowsIn, fieldAt}
-use Rattle.program.specs.Tables.{Tables, portWidth, portCount, portKind, sensor, actuator, input, output, taskPortCount, tpTask, tpPort, guardKind, guardPort, kindInterval, copyCount, copyDriver, copySource, copyDestination, modePortCount, mpMode, mpPort}
+use Rattle.program.specs.Tables.{Tables, portWidth, portCount, portKind, sensor, actuator, input, output, taskPortCount, tpTask}
+use Rattle.program.specs.Tables.{tpPort, guardKind, guardPort, kindInterval, copyCount, copyDriver, copySource, copyDestination}
+use Rattle.program.specs.Tables.{modePortCount, mpMode, mpPort}
 
 -- p is a declared port of this kind
 unfoldable pub isKind : Tables → ℕ → ℕ → Bool

@@ -1,8 +1,10 @@
--- The ten tables of a program and its start mode, as they are lent: columns by name, rows by number.
+-- The ten tables of a program and its start mode, as they are lent: tables by their place, columns by name, rows by number.
 -- Assumes nothing.
 use Prim.Native.Nat.{ℕ}
-use mathlib.Core.List.{List}
+use mathlib.Core.List.{List, [], _∷_}
 use lib.IntN.{ℤ}
+use lib.ListN.{getD}
+use denote.Ref.{RefT, now}
 use Rattle.cells.specs.Cell.{indexOf, nameOf, rowsIn, fieldAt, namedAt, valueAt}
 
 pub record Tables : Type 0 where
@@ -33,6 +35,51 @@ tables ports tasks taskPorts drivers copies modes modePorts invocations updates 
       switches = switches;
       start = start;
     }
+
+-- the places of the tables, in 01's order: they number the tables
+abbrev pub portsAt : ℕ
+portsAt = 0
+
+abbrev pub tasksAt : ℕ
+tasksAt = 1
+
+abbrev pub taskPortsAt : ℕ
+taskPortsAt = 2
+
+abbrev pub driversAt : ℕ
+driversAt = 3
+
+abbrev pub copiesAt : ℕ
+copiesAt = 4
+
+abbrev pub modesAt : ℕ
+modesAt = 5
+
+abbrev pub modePortsAt : ℕ
+modePortsAt = 6
+
+abbrev pub invocationsAt : ℕ
+invocationsAt = 7
+
+abbrev pub updatesAt : ℕ
+updatesAt = 8
+
+abbrev pub switchesAt : ℕ
+switchesAt = 9
+
+-- past the last table, nothing
+abbrev pub noTable : RefT (List ℤ)
+noTable = record { ptr = (0, 0); name = 0; now = [] }
+
+-- the numbers of the table that stands at a place of what is lent
+abbrev pub tableAt : List (RefT (List ℤ)) → ℕ → List ℤ
+tableAt lent place = getD lent place noTable .now
+
+-- ten tables lent as one value, with a start mode
+abbrev pub tablesIn : List (RefT (List ℤ)) → ℤ → Tables
+tablesIn lent start =
+    tables (tableAt lent portsAt) (tableAt lent tasksAt) (tableAt lent taskPortsAt) (tableAt lent driversAt) (tableAt lent copiesAt)
+    (tableAt lent modesAt) (tableAt lent modePortsAt) (tableAt lent invocationsAt) (tableAt lent updatesAt) (tableAt lent switchesAt) start
 
 -- ports: kind (0 sensor, 1 actuator, 2 task input, 3 task output), first value
 abbrev pub portWidth : ℕ
@@ -238,6 +285,24 @@ swTarget T = namedAt switchWidth switchTarget (T .switches)
 
 abbrev pub swDriver : Tables → ℕ → ℕ
 swDriver T = namedAt switchWidth switchDriver (T .switches)
+
+-- the rows of the table at a place, counted; none past the last
+abbrev pub rowsAt : Tables → ℕ → ℕ
+rowsAt T place =
+    getD
+    (portCount T
+    ∷ taskCount T
+    ∷ taskPortCount T
+    ∷ driverCount T
+    ∷ copyCount T
+    ∷ modeCount T
+    ∷ modePortCount T
+    ∷ invocationCount T
+    ∷ updateCount T
+    ∷ switchCount T
+    ∷ [])
+    place
+    0
 
 -- the start mode, a number beside them
 abbrev pub startMode : Tables → ℕ

@@ -11,7 +11,8 @@ use Rattle.theory.specs.Search.{any, first}
 use Rattle.theory.specs.Lists.{those}
 use Rattle.cells.specs.Cell.{rowsIn}
 use Rattle.cells.specs.Limits.{maxUnits}
-use Rattle.program.specs.Tables.{Tables, rowMode, rowFrequency, invocationWidth, updateWidth, switchWidth, invocationCount, invMode, invFrequency, updateCount, updMode, updFrequency, switchCount, swMode, swFrequency}
+use Rattle.program.specs.Tables.{Tables, rowMode, rowFrequency, invocationWidth, updateWidth, switchWidth, invocationCount, invMode}
+use Rattle.program.specs.Tables.{invFrequency, updateCount, updMode, updFrequency, switchCount, swMode, swFrequency}
 
 -- u is not a multiple of the frequency f
 unfoldable pub misses : ℕ → ℕ → Bool

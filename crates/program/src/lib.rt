@@ -4,3 +4,4 @@ pub mod due;
 pub mod guard;
 pub mod members;
 pub mod multiples;
+pub mod rows;

@@ -1,8 +1,9 @@
 -- A loop over the units of a round up to the first break: after k of them the rest is judged as the whole, the next block begins
 -- behind theirs, and the walk over the schedule has come to a row that every row before is behind. What the round comes to by it.
--- Assumes of the schedule that it is sorted; for the limits, of the tables that they have no more rows than those (`Few`).
+-- Assumes of the schedule that it is sorted; for the limits, of the tables that number 1 passes them.
 use Prim.Native.Nat.{ℕ, zero, suc, _+_, _-_, _≤_, _<_}
 use mathlib.Core.Path.{_≡_, refl, sym, ap, subst, subst₂, _∙_}
+use mathlib.Core.Bool.{false}
 use mathlib.Core.List.{List}
 use native.Mathlib.Nat.{add-zero, add-assoc, le-trans}
 use native.Mathlib.Numerals.{add-one}
@@ -11,10 +12,11 @@ use lib.IntN.{ℤ}
 use Rattle.theory.specs.Lists.{sum}
 use Rattle.theory.specs.Verdict.{acceptedNumber}
 use Rattle.cells.specs.Limits.{maxPorts, maxUnits}
+use Rattle.program.specs.Tables.{Tables}
+use Rattle.rules.specs.Shape.{shapeBad}
 use Rattle.layout.specs.declared.counts.Counts.{Counts}
-use Rattle.layout.specs.Few.{Few}
 use Rattle.layout.specs.Counts.{countsIn, beforeFuture, sizeOf, mostBlock, mostMode, mostCode}
-use Rattle.layout.proofs.Limits.{unit-most, mode-most}
+use Rattle.layout.proofs.Limits.{unit-most, mode-most, few-rows}
 use Rattle.runs.specs.declared.block.Span.{Span}
 use Rattle.runs.specs.Schedule.{scheduleCount, rowsOf, blockOf, Sorted, found, spanOf}
 use Rattle.runs.specs.Round.{Course, Break, none, outside, late, worstCase, judge, nothing, worstBreak}
@@ -76,13 +78,13 @@ rounded-says {r} {b} {at} {row} e = subst (λ (x : Rounded). Told x b at row) (s
     go (outside t) = record { number = refl; tick = refl; came = λ e. absurd (omega arith) }
     go (late t) = record { number = refl; tick = refl; came = λ e. absurd (omega arith) }
 
-module _ (tasks invocations updates switches W S : List ℤ) (sensors s m u ticks first from : ℕ) where
+module _ (T : Tables) (W S : List ℤ) (sensors s m u ticks first from : ℕ) where
   -- what is due at each unit, and the course
   abbrev counts : ℕ → Counts
-  counts = countsIn invocations updates switches sensors m u
+  counts = countsIn (T .invocations) (T .updates) (T .switches) sensors m u
 
   abbrev run : Course
-  run = courseIn tasks invocations W s m u ticks (blockIn S s counts first)
+  run = courseIn (T .tasks) (T .invocations) W s m u ticks (blockIn S s counts first)
 
   -- after k units
   pub record Going (k at row : ℕ) (left : List ℕ) : Type 0 where
@@ -106,16 +108,17 @@ module _ (tasks invocations updates switches W S : List ℤ) (sensors s m u tick
 
   module _ {k at row : ℕ} {left : List ℕ} (h : Going k at row left) where
     -- no address up to the end of the next block exceeds the longest code and a block
-    pub going-near : Few invocations updates switches → sensors ≤ maxPorts → u ≤ suc maxUnits → first + mostMode ≤ mostCode
+    pub going-near : shapeBad T ≡ false → sensors ≤ maxPorts → u ≤ suc maxUnits → first + mostMode ≤ mostCode
         → {c : Counts} → c ≡ counts k → at + sizeOf c ≤ mostCode + mostBlock
-    going-near few z l b d =
+    going-near shape z l b d =
         let e = ap sizeOf d in
+        let few = few-rows T shape in
         omega (
           arith,
           h .ends,
-          mode-most invocations updates switches sensors m u few z k (le-trans (h .in-range) l),
+          mode-most _ _ _ sensors m u few z k (le-trans (h .in-range) l),
           e,
-          unit-most invocations updates switches sensors m u few z k,
+          unit-most _ _ _ sensors m u few z k,
         )
 
     -- where the rows of the next block were found
@@ -127,7 +130,7 @@ module _ (tasks invocations updates switches W S : List ℤ) (sensors s m u tick
     -- the next unit, as it was counted, found and run
     module _ {c : Counts} {before : ℕ} {span : Span} {part : List ℤ} {unit : Ended} (o : Sorted S) (l : k < u) (d : c ≡ counts k) (b : before ≡ beforeFuture c)
         (q : span ≡ found S row s (at + before)) (p : part ≡ spanOf S span)
-        (e : unit ≡ unitEnd (courseIn tasks invocations W s m u ticks (λ j. rowsOf part)) k left) where
+        (e : unit ≡ unitEnd (courseIn (T .tasks) (T .invocations) W s m u ticks (λ j. rowsOf part)) k left) where
       -- the rows found are its block
       rows-are : rowsOf part ≡ blockIn S s counts first k
       rows-are =
@@ -139,7 +142,7 @@ module _ (tasks invocations updates switches W S : List ℤ) (sensors s m u tick
 
       -- so it ended as it does in the course
       unit-is : unit ≡ unitEnd run k left
-      unit-is = e ∙ unit-own-block tasks invocations W s m u ticks (blockIn S s counts first) k left rows-are
+      unit-is = e ∙ unit-own-block (T .tasks) (T .invocations) W s m u ticks (blockIn S s counts first) k left rows-are
 
       -- it and the units after it are judged as the round is
       rest : judge run (worstCase run) (suc (u - (k + 1))) k left ≡ worstBreak run nothing

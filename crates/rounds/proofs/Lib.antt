@@ -2,6 +2,5 @@
 pub mod Releases
 pub mod Stops
 pub mod Going
-pub mod Lent
 pub mod Answers
 pub mod Courses

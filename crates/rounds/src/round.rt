@@ -1,9 +1,11 @@
 // The round of one mode: its units one after the other, from nothing running, up to the first break.
 ghost use mathlib.Core.Path.{_≡_};
 ghost use Prim.Native.Nat.{suc, _+_, _≤_};
+ghost use lib.IntN.{ℤ};
 ghost use Rattle.cells.specs.Limits.{maxPorts, maxPeriod, maxUnits};
+ghost use Rattle.program.specs.Tables.{tablesIn};
+ghost use Rattle.rules.specs.Shape.{InShape};
 ghost use Rattle.layout.specs.Counts.{countsIn, mostMode, mostCode};
-ghost use Rattle.layout.specs.Few.{Few};
 ghost use Rattle.runs.specs.Schedule.{Sorted};
 ghost use Rattle.runs.specs.Round.{worstBreak, nothing};
 ghost use Rattle.rounds.specs.Course.{courseIn, blockAt, blockIn, rowBefore, Come};
@@ -12,6 +14,7 @@ use crate::units;
 use cells::kinds::Mode;
 use cells::limits::Program;
 use cells::refusals;
+use cells::tables;
 use layout::counts;
 use runs::block;
 
@@ -25,10 +28,7 @@ pub struct Rounded {
 
 // Mode m, which has u units of so many ticks; its first block stands at `first`, and no row of its blocks before `from`.
 pub fn one_round(
-    tasks: &[i32],
-    invocations: &[i32],
-    updates: &[i32],
-    switches: &[i32],
+    tables: &[&[i32]; Program::TABLES],
     windows: &[i32],
     part: &[i32],
     sensors: usize,
@@ -39,19 +39,23 @@ pub fn one_round(
     first: usize,
     from: usize,
 ) -> Rounded
-    requires { ⌜ Few (now invocations) (now updates) (now switches) ⌝ }
+    requires { ⌜ InShape (now tables) ⌝ }
     requires { ⌜ sensors ≤ maxPorts ⌝ }
     requires { ⌜ u ≤ suc maxUnits ⌝ }
     requires { ⌜ ticks ≤ maxPeriod ⌝ }
     requires { ⌜ first + mostMode ≤ mostCode ⌝ }
     requires { ⌜ Sorted (now part) ⌝ }
     requires { ⌜ Come (now part) supplier first from ⌝ }
-    ensures { λ r. ⌜ r ≡ rounded (worstBreak (courseIn (now (tasks .entry)) (now (invocations .entry)) (now (windows .entry)) supplier
-        (m .0) u ticks (blockIn (now (part .entry)) supplier (countsIn (now (invocations .entry)) (now (updates .entry))
-        (now (switches .entry)) sensors (m .0) u) first)) nothing) (blockAt (countsIn (now (invocations .entry))
-        (now (updates .entry)) (now (switches .entry)) sensors (m .0) u) first u) (rowBefore (now (part .entry)) supplier (countsIn
-        (now (invocations .entry)) (now (updates .entry)) (now (switches .entry)) sensors (m .0) u) first from u) ⌝ }
+    ensures { λ r. ⌜ ((start : ℤ) → let T = tablesIn (now (tables .entry)) start in
+        let counts = countsIn (T .invocations) (T .updates) (T .switches) sensors (m .0) u in
+        let course = courseIn (T .tasks) (T .invocations) (now (windows .entry)) supplier (m .0) u ticks in
+        r ≡ rounded (worstBreak (course (blockIn (now (part .entry)) supplier counts first)) nothing) (blockAt counts first u)
+        (rowBefore (now (part .entry)) supplier counts first from u)) ⌝ }
 {
+    let tasks = tables[tables::TASKS];
+    let invocations = tables[tables::INVOCATIONS];
+    let updates = tables[tables::UPDATES];
+    let switches = tables[tables::SWITCHES];
     let mut left = [0; Program::TASKS];
     let mut at = first;
     let mut row = from;

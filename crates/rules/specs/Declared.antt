@@ -5,7 +5,8 @@ use mathlib.Core.Path.{_≡_}
 use mathlib.Core.Bool.{Bool, not, _&&_, _||_}
 use lib.Dec.{eqb}
 use Rattle.theory.specs.Search.{any}
-use Rattle.program.specs.Tables.{Tables, sensor, actuator, input, output, taskPortCount, tpTask, tpPort, copyCount, copyDriver, copyDestination, modePortCount, mpMode, mpPort}
+use Rattle.program.specs.Tables.{Tables, sensor, actuator, input, output, taskPortCount, tpTask, tpPort, copyCount, copyDriver}
+use Rattle.program.specs.Tables.{copyDestination, modePortCount, mpMode, mpPort}
 use Rattle.program.specs.Sets.{isKind, isTaskPort, modePortAt, copiesTo, OfKind, Input}
 
 -- 3: a task port row repeats, names a sensor or actuator, or one input port serves two tasks

@@ -12,7 +12,11 @@ use Rattle.theory.specs.Order.{_≤Z_}
 use Rattle.cells.specs.Cell.{eqZ}
 use Rattle.cells.specs.Reading.{isMissing, noReading, Value, isValue}
 use Rattle.cells.specs.Limits.{suppliers, maxWorst, maxPeriod, maxFrequency}
-use Rattle.program.specs.Tables.{Tables, portCount, portKind, output, taskCount, taskSupplier, taskWorst, taskPortCount, tpTask, tpPort, driverCount, guardKind, guardPort, guardLow, guardHigh, kindAlways, kindInterval, copyCount, copyDriver, copySource, copyDestination, modeCount, modePeriod, modePortCount, mpMode, mpPort, invocationCount, invMode, invFrequency, invTask, invDriver, updateCount, updMode, updFrequency, updDriver, switchCount, swMode, swFrequency, swTarget, swDriver, startMode}
+use Rattle.program.specs.Tables.{Tables, portCount, portKind, output, taskCount, taskSupplier, taskWorst, taskPortCount, tpTask, tpPort}
+use Rattle.program.specs.Tables.{driverCount, guardKind, guardPort, guardLow, guardHigh, kindAlways, kindInterval, copyCount, copyDriver}
+use Rattle.program.specs.Tables.{copySource, copyDestination, modeCount, modePeriod, modePortCount, mpMode, mpPort, invocationCount}
+use Rattle.program.specs.Tables.{invMode, invFrequency, invTask, invDriver, updateCount, updMode, updFrequency, updDriver, switchCount}
+use Rattle.program.specs.Tables.{swMode, swFrequency, swTarget, swDriver, startMode}
 
 -- from 1 to the limit
 unfoldable pub inRange : ℕ → ℕ → Bool

@@ -6,9 +6,13 @@ use mathlib.Core.Bool.{Bool, not, _&&_, _||_}
 use mathlib.Core.Logic.{_⊎_, _↔_}
 use lib.Dec.{eqb}
 use Rattle.theory.specs.Search.{any}
-use Rattle.program.specs.Tables.{Tables, sensor, actuator, input, output, taskPortCount, tpTask, tpPort, guardKind, guardPort, kindAlways, kindInterval, copyCount, copyDriver, copySource, copyDestination, modePortCount, mpMode, mpPort, invocationCount, invMode, invTask, invDriver, updateCount, updMode, updDriver, switchCount, swMode, swTarget, swDriver}
+use Rattle.program.specs.Tables.{Tables, sensor, actuator, input, output, taskPortCount, tpTask, tpPort, guardKind, guardPort, kindAlways}
+use Rattle.program.specs.Tables.{kindInterval, copyCount, copyDriver, copySource, copyDestination, modePortCount, mpMode, mpPort}
+use Rattle.program.specs.Tables.{invocationCount, invMode, invTask, invDriver, updateCount, updMode, updDriver, switchCount, swMode}
+use Rattle.program.specs.Tables.{swTarget, swDriver}
 use Rattle.program.specs.Guard.{guardOf, meet, Meet}
-use Rattle.program.specs.Sets.{isKind, isInput, isOutput, isModePort, isDestination, Sensor, Actuator, Input, Output, ModePort, Source, Destination}
+use Rattle.program.specs.Sets.{isKind, isInput, isOutput, isModePort, isDestination, Sensor, Actuator, Input, Output, ModePort, Source}
+use Rattle.program.specs.Sets.{Destination}
 
 -- row k of the task ports is one of task t, of this kind
 unfoldable pub ownPort : Tables → ℕ → ℕ → ℕ → Bool
@@ -83,7 +87,8 @@ pub record Invocations (T : Tables) : Type 0 where
   pub each : (i : ℕ) → i < invocationCount T → Invokes T i
   -- t ≠ t′, and Out[t] ∩ Out[t′] = ∅
   pub tasks-apart : (i j : ℕ) → j < i → i < invocationCount T → invMode T j ≡ invMode T i → invTask T j ≡ invTask T i → ⊥
-  pub outputs-apart : (i j p : ℕ) → j < i → i < invocationCount T → invMode T j ≡ invMode T i → Output T (invTask T i) p → Output T (invTask T j) p → ⊥
+  pub outputs-apart : (i j p : ℕ) → j < i → i < invocationCount T → invMode T j ≡ invMode T i
+      → Output T (invTask T i) p → Output T (invTask T j) p → ⊥
 
 -- 7, update: a source is no mode port, a destination no actuator, or two rows in a mode share a destination
 unfoldable pub updateClash : Tables → ℕ → ℕ → Bool
@@ -105,7 +110,8 @@ pub record Updates (T : Tables) : Type 0 where
   pub sources : (i p : ℕ) → i < updateCount T → Source T (updDriver T i) p → ModePort T (updMode T i) p
   pub destinations : (i p : ℕ) → i < updateCount T → Destination T (updDriver T i) p → Actuator T p
   -- Dst[d] ∩ Dst[d′] = ∅
-  pub apart : (i j p : ℕ) → j < i → i < updateCount T → updMode T j ≡ updMode T i → Destination T (updDriver T i) p → Destination T (updDriver T j) p → ⊥
+  pub apart : (i j p : ℕ) → j < i → i < updateCount T → updMode T j ≡ updMode T i
+      → Destination T (updDriver T i) p → Destination T (updDriver T j) p → ⊥
 
 -- 8, switch: a source is neither a port of the old mode nor a sensor; destinations are not exactly the target's mode ports;
 -- two guards in a mode can hold for one valuation
@@ -127,4 +133,5 @@ pub record Switches (T : Tables) : Type 0 where
   pub sources : (i p : ℕ) → i < switchCount T → Source T (swDriver T i) p → ModePort T (swMode T i) p ⊎ Sensor T p
   pub destinations : (i p : ℕ) → i < switchCount T → Destination T (swDriver T i) p ↔ ModePort T (swTarget T i) p
   -- for all valuations, g[d] or g[d′] is false
-  pub apart : (i j : ℕ) → j < i → i < switchCount T → swMode T j ≡ swMode T i → Meet (guardOf T (swDriver T j)) (guardOf T (swDriver T i)) → ⊥
+  pub apart : (i j : ℕ) → j < i → i < switchCount T → swMode T j ≡ swMode T i
+      → Meet (guardOf T (swDriver T j)) (guardOf T (swDriver T i)) → ⊥

@@ -2,12 +2,16 @@
 -- Tested on just the slices that a call is lent: a call that is lent more asks more. Assumes nothing.
 use Prim.Native.Nat.{ℕ, _*_, _/_, _%_, _≤_}
 use mathlib.Core.Path.{_≡_}
-use mathlib.Core.Bool.{Bool, not, _||_}
+use mathlib.Core.Bool.{Bool, false, not, _||_}
 use mathlib.Core.List.{List}
 use lib.Dec.{eqb, ltb}
+use lib.IntN.{ℤ}
 use lib.ListN.{length}
-use Rattle.cells.specs.Limits.{maxPorts, maxTasks, maxTaskPorts, maxDrivers, maxCopies, maxModes, maxModePorts, maxInvocations, maxUpdates, maxSwitches}
-use Rattle.program.specs.Tables.{Tables, portWidth, taskWidth, taskPortWidth, driverWidth, copyWidth, modeWidth, modeCount, modePortWidth, invocationWidth, updateWidth, switchWidth}
+use denote.Ref.{RefT}
+use Rattle.cells.specs.Limits.{maxPorts, maxTasks, maxTaskPorts, maxDrivers, maxCopies, maxModes, maxModePorts, maxInvocations}
+use Rattle.cells.specs.Limits.{maxUpdates, maxSwitches}
+use Rattle.program.specs.Tables.{Tables, tablesIn, portWidth, taskWidth, taskPortWidth, driverWidth, copyWidth, modeWidth, modeCount}
+use Rattle.program.specs.Tables.{modePortWidth, invocationWidth, updateWidth, switchWidth}
 
 module _ {A : Type 0} where
   -- not whole rows of this width, or more of them than the limit
@@ -48,3 +52,7 @@ pub record Shaped (T : Tables) : Type 0 where
   pub updates : WholeRows updateWidth maxUpdates (T .updates)
   pub switches : WholeRows switchWidth maxSwitches (T .switches)
   pub some-mode : 1 ≤ modeCount T
+
+-- tables that are lent have their shape, whatever the start mode
+abbrev pub InShape : List (RefT (List ℤ)) → Type 0
+InShape lent = (start : ℤ) → shapeBad (tablesIn lent start) ≡ false

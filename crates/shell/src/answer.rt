@@ -1,15 +1,16 @@
 // What is to be printed of a text that was read: `bad input`, or the number, and with 0 the listing.
 ghost use mathlib.Core.Path.{_≡_};
 ghost use Rattle.intake.specs.Line.{fed};
-ghost use Rattle.intake.specs.Heard.{tablesIn, heard};
+ghost use Rattle.intake.specs.Heard.{tablesRead, heard};
 ghost use Rattle.code.specs.Compile.{compileAnswer, compileSlice};
 ghost use Rattle.compiler.specs.Listed.{compiling};
 ghost use Rattle.text.specs.Shipped.{printed};
 ghost use Rattle.shell.specs.Answer.{blank, answered, answerOf, textOfAnswer};
+use cells::limits::Program;
 use cells::refusals;
 use code::Compiled;
 use intake::state::Intake;
-use intake::tables::table;
+use intake::tables;
 
 // `bad`, or the number of compiling and the listing's length; of a bad text these say nothing, and are 0.
 pub struct Shown {
@@ -20,23 +21,11 @@ pub struct Shown {
 
 // A text that was read whole, compiled.
 fn compiled(i: Intake, room: &[i32], code: &mut [u32]) -> Compiled
-    ensures answer { λ r. ⌜ r ≡ compileAnswer (compiling (tablesIn (fed i (now (room .entry)))) (now (code .entry))) ⌝ }
-    ensures slice { λ r. ⌜ now (code .exit) ≡ compileSlice (compiling (tablesIn (fed i (now (room .entry)))) (now (code .entry))) ⌝ }
+    ensures answer { λ r. ⌜ r ≡ compileAnswer (compiling (tablesRead (fed i (now (room .entry)))) (now (code .entry))) ⌝ }
+    ensures slice { λ r. ⌜ now (code .exit) ≡ compileSlice (compiling (tablesRead (fed i (now (room .entry)))) (now (code .entry))) ⌝ }
 {
-    compiler::compile(
-        table(i, room, 0),
-        table(i, room, 1),
-        table(i, room, 2),
-        table(i, room, 3),
-        table(i, room, 4),
-        table(i, room, 5),
-        table(i, room, 6),
-        table(i, room, 7),
-        table(i, room, 8),
-        table(i, room, 9),
-        i.start,
-        code,
-    )
+    let tables = tables::tables(i, room);
+    compiler::compile(&tables, Program { start: i.start }, code)
 }
 
 // Of a text that is complete, compiling's answer; of the others a count was out of its limit, or the text is bad.

@@ -47,7 +47,9 @@ idleFits S i = eqb (rowKind S i) kindIdle && eqb (rowTask S i) 0
 
 -- row i comes before row j, by supplier, then address
 unfoldable pub precedes : List ℤ → ℕ → ℕ → Bool
-precedes S i j = ltb (rowSupplier S i) (rowSupplier S j) || (eqb (rowSupplier S i) (rowSupplier S j) && ltb (rowAddress S i) (rowAddress S j))
+precedes S i j =
+    ltb (rowSupplier S i) (rowSupplier S j)
+    || (eqb (rowSupplier S i) (rowSupplier S j) && ltb (rowAddress S i) (rowAddress S j))
 
 -- row i is wrong by itself, or comes before the row above it (row 0 - 1 is row 0), where it is said of an address and a timeout
 -- whether a `future` stands there and the timeout is within its delay

@@ -1,21 +1,21 @@
 // Number 13 of the joined schedule: a row that is wrong, or more rows of one supplier than a part may have.
 ghost use mathlib.Core.Path.{_≡_};
-ghost use Prim.Native.Nat.{_≤_};
+ghost use lib.IntN.{ℤ};
 ghost use lib.Dec.{ltb};
 ghost use Rattle.theory.specs.Search.{any};
 ghost use Rattle.theory.specs.Verdict.{acceptedNumber};
-ghost use Rattle.cells.specs.Cell.{rowsIn};
-ghost use Rattle.cells.specs.Limits.{suppliers, maxPart, maxPorts, maxModes};
-ghost use Rattle.program.specs.Tables.{Tables, portWidth, modeWidth};
+ghost use Rattle.cells.specs.Limits.{suppliers, maxPart};
+ghost use Rattle.program.specs.Tables.{tablesIn};
+ghost use Rattle.rules.specs.Shape.{InShape};
 ghost use Rattle.rules.specs.Verdict.{programVerdict};
 ghost use Rattle.code.specs.Compile.{CodeFits};
-ghost use Rattle.layout.specs.Few.{Few};
 ghost use Rattle.suppliers.specs.Schedule.{rowCount, joinedBad};
 ghost use Rattle.suppliers.specs.Delays.{countedDelays, joinedBadBy};
 use crate::schedule_rows;
 use cells::columns::schedule;
 use cells::limits::Program;
 use cells::table;
+use cells::tables;
 use layout::delays;
 
 // How many rows a supplier has.
@@ -49,29 +49,16 @@ fn some_long(rows: &[i32]) -> bool
 }
 
 // The joined schedule is refused, by the delays that are counted; of a program that 1 to 11 pass, by those of its listing.
-pub fn refused(
-    ports: &[i32],
-    tasks: &[i32],
-    modes: &[i32],
-    invocations: &[i32],
-    updates: &[i32],
-    switches: &[i32],
-    rows: &[i32],
-) -> bool
-    requires { ⌜ Few (now invocations) (now updates) (now switches) ⌝ }
-    requires { ⌜ rowsIn modeWidth (now modes) ≤ maxModes ⌝ }
-    requires { ⌜ rowsIn portWidth (now ports) ≤ maxPorts ⌝ }
-    ensures counted { λ r. ⌜ ((T : Tables) → T .ports ≡ now (ports .entry) → T .tasks ≡ now (tasks .entry)
-        → T .modes ≡ now (modes .entry) → T .invocations ≡ now (invocations .entry) → T .updates ≡ now (updates .entry)
-        → T .switches ≡ now (switches .entry) → r ≡ joinedBadBy T (countedDelays T) (now (rows .entry))) ⌝ }
-    ensures listed { λ r. ⌜ ((T : Tables) → T .ports ≡ now (ports .entry) → T .tasks ≡ now (tasks .entry)
-        → T .modes ≡ now (modes .entry) → T .invocations ≡ now (invocations .entry) → T .updates ≡ now (updates .entry)
-        → T .switches ≡ now (switches .entry) → programVerdict T ≡ acceptedNumber → CodeFits T
-        → r ≡ joinedBad T (now (rows .entry))) ⌝ }
+pub fn refused(tables: &[&[i32]; Program::TABLES], rows: &[i32]) -> bool
+    requires { ⌜ InShape (now tables) ⌝ }
+    ensures counted { λ r. ⌜ ((start : ℤ) → let T = tablesIn (now (tables .entry)) start in
+        r ≡ joinedBadBy T (countedDelays T) (now (rows .entry))) ⌝ }
+    ensures listed { λ r. ⌜ ((start : ℤ) → let T = tablesIn (now (tables .entry)) start in
+        programVerdict T ≡ acceptedNumber → CodeFits T → r ≡ joinedBad T (now (rows .entry))) ⌝ }
 {
     let mut table = [0u32; Program::CODE];
-    delays::fill(ports, modes, invocations, updates, switches, &mut table);
+    delays::fill(tables, &mut table);
     let n = rows.len() / schedule::WIDTH;
-    let wrong = schedule_rows::first_wrong_row(tasks, &table, rows) < n;
+    let wrong = schedule_rows::first_wrong_row(tables[tables::TASKS], &table, rows) < n;
     wrong | some_long(rows)
 }

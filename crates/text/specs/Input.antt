@@ -7,8 +7,10 @@ use mathlib.Core.Option.{Option, none, some}
 use lib.Dec.{eqb, leb}
 use lib.IntN.{ℤ, pos, negsuc}
 use lib.ListN.{getD}
-use Rattle.cells.specs.Limits.{maxPorts, maxTasks, maxTaskPorts, maxDrivers, maxCopies, maxModes, maxModePorts, maxInvocations, maxUpdates, maxSwitches}
-use Rattle.program.specs.Tables.{Tables, tables, portWidth, taskWidth, taskPortWidth, driverWidth, copyWidth, modeWidth, modePortWidth, invocationWidth, updateWidth, switchWidth}
+use Rattle.cells.specs.Limits.{maxPorts, maxTasks, maxTaskPorts, maxDrivers, maxCopies, maxModes, maxModePorts, maxInvocations}
+use Rattle.cells.specs.Limits.{maxUpdates, maxSwitches}
+use Rattle.program.specs.Tables.{Tables, tables, portWidth, taskWidth, taskPortWidth, driverWidth, copyWidth, modeWidth, modePortWidth}
+use Rattle.program.specs.Tables.{invocationWidth, updateWidth, switchWidth}
 use Rattle.text.specs.Decimal.{newline, number}
 
 -- a byte in front of the lines of a text

@@ -2,7 +2,6 @@
 use crate::compiles;
 use crate::kind;
 use crate::supplier_cases;
-use crate::verdicts;
 use crate::window_cases;
 use cases::numbers;
 use cases::out;
@@ -11,13 +10,13 @@ use cases::stream;
 use cases::stream::Reader;
 use libc::STDOUT_FILENO;
 use machine_cases::advance;
-use machine_cases::fresh;
 use machine_cases::long;
+use machine_cases::programs;
 
 // The next case, answered. A refused reader reads nothing, and nothing is printed for it.
 fn case(kind: &[u8], r: Reader, buffer: &mut [u8]) -> Answer {
     if check::same(kind, b"verdict") {
-        return verdicts::case(r, buffer);
+        return programs::case(r, buffer, false);
     }
     if check::same(kind, b"compile") {
         return compiles::case(r, buffer);
@@ -29,7 +28,7 @@ fn case(kind: &[u8], r: Reader, buffer: &mut [u8]) -> Answer {
         return supplier_cases::case(r, buffer);
     }
     if check::same(kind, b"fresh") {
-        return fresh::case(r, buffer);
+        return programs::case(r, buffer, true);
     }
     if check::same(kind, b"advance") {
         return advance::case(r, buffer, false);

@@ -7,7 +7,6 @@ use cases::stream::Reader;
 use cases::tables;
 use cases::tables::Lengths;
 use cells::parts::least;
-use cells::parts::part;
 use cells::parts::words;
 use cells::table;
 use code::Compiled;
@@ -17,20 +16,7 @@ const LENT: usize = 20480;
 
 // A program that was read, compiled.
 fn compiled(l: Lengths, room: &[i32], code: &mut [u32]) -> Compiled {
-    compiler::compile(
-        part(room, room::PORTS_AT, l.ports),
-        part(room, room::TASKS_AT, l.tasks),
-        part(room, room::TASK_PORTS_AT, l.task_ports),
-        part(room, room::DRIVERS_AT, l.drivers),
-        part(room, room::COPIES_AT, l.copies),
-        part(room, room::MODES_AT, l.modes),
-        part(room, room::MODE_PORTS_AT, l.mode_ports),
-        part(room, room::INVOCATIONS_AT, l.invocations),
-        part(room, room::UPDATES_AT, l.updates),
-        part(room, room::SWITCHES_AT, l.switches),
-        l.start,
-        code,
-    )
+    compiler::compile(&tables::lent(l, room), l.program, code)
 }
 
 // These words, each after a space; false where one could not be written.

@@ -3,7 +3,6 @@ mod answers;
 mod compiles;
 mod kind;
 mod supplier_cases;
-mod verdicts;
 mod window_cases;
 
 use libc::STDOUT_FILENO;

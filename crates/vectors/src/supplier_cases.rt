@@ -44,22 +44,8 @@ fn verdict(
     rows: &[i32],
     supplier: i32,
 ) -> suppliers::Answer {
-    acceptance::supplier_verdict(
-        part(room, room::PORTS_AT, l.ports),
-        part(room, room::TASKS_AT, l.tasks),
-        part(room, room::TASK_PORTS_AT, l.task_ports),
-        part(room, room::DRIVERS_AT, l.drivers),
-        part(room, room::COPIES_AT, l.copies),
-        part(room, room::MODES_AT, l.modes),
-        part(room, room::MODE_PORTS_AT, l.mode_ports),
-        part(room, room::INVOCATIONS_AT, l.invocations),
-        part(room, room::UPDATES_AT, l.updates),
-        part(room, room::SWITCHES_AT, l.switches),
-        l.start,
-        windows,
-        rows,
-        supplier,
-    )
+    let lent = tables::lent(l, room);
+    acceptance::supplier_verdict(&lent, l.program, windows, rows, supplier)
 }
 
 // Its line; false where it could not be written. A refused reader has none.

@@ -9,20 +9,8 @@ use cells::parts::part;
 
 // The line of a program that was read, with its windows; false where it could not be written.
 fn judged(l: Lengths, room: &[i32], windows: &[i32]) -> bool {
-    out::number(acceptance::windows_verdict(
-        part(room, room::PORTS_AT, l.ports),
-        part(room, room::TASKS_AT, l.tasks),
-        part(room, room::TASK_PORTS_AT, l.task_ports),
-        part(room, room::DRIVERS_AT, l.drivers),
-        part(room, room::COPIES_AT, l.copies),
-        part(room, room::MODES_AT, l.modes),
-        part(room, room::MODE_PORTS_AT, l.mode_ports),
-        part(room, room::INVOCATIONS_AT, l.invocations),
-        part(room, room::UPDATES_AT, l.updates),
-        part(room, room::SWITCHES_AT, l.switches),
-        l.start,
-        windows,
-    ))
+    let lent = tables::lent(l, room);
+    out::number(acceptance::windows_verdict(&lent, l.program, windows))
 }
 
 pub fn case(r: Reader, buffer: &mut [u8]) -> Answer {

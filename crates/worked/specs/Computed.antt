@@ -6,8 +6,11 @@ use Rattle.cells.specs.Reading.{inside, isMissing, isValue}
 use Rattle.program.specs.Sets.{isKind, isTaskPort, modePortAt, isInput, isOutput, isModePort, copiesFrom, copiesTo, isSource, isDestination}
 use Rattle.program.specs.Units.{misses, rowMisses, isMultiple, units}
 use Rattle.rules.specs.Declared.{samePort, taskPortClash, taskPortsBad, copyClash, copiesBad, modePortClash, modePortsBad}
-use Rattle.rules.specs.Fields.{inRange, portBad, taskBad, taskPortBad, alwaysFits, intervalFits, driverBad, copyBad, modeBad, modePortBad, invocationBad, updateBad, switchBad, startBad, fieldsBad}
-use Rattle.rules.specs.Modes.{ownPort, outputWith, inputWith, portWith, sourceWith, destinationWith, someOutput, someInput, somePort, someSource, someDestination, unreadable, invocationClash, invocationWrong, invocationsBad, updateClash, updateWrong, updatesBad, switchClash, switchWrong, switchesBad}
+use Rattle.rules.specs.Fields.{inRange, portBad, taskBad, taskPortBad, alwaysFits, intervalFits, driverBad, copyBad, modeBad, modePortBad}
+use Rattle.rules.specs.Fields.{invocationBad, updateBad, switchBad, startBad, fieldsBad}
+use Rattle.rules.specs.Modes.{ownPort, outputWith, inputWith, portWith, sourceWith, destinationWith, someOutput, someInput, somePort}
+use Rattle.rules.specs.Modes.{someSource, someDestination, unreadable, invocationClash, invocationWrong, invocationsBad, updateClash}
+use Rattle.rules.specs.Modes.{updateWrong, updatesBad, switchClash, switchWrong, switchesBad}
 use Rattle.rules.specs.Shape.{badSlice, badLength, shapeBad}
 use Rattle.rules.specs.Timing.{unitsWrong, unitsBad, notWhole, wholeWrong, wholeBad}
 use Rattle.rules.specs.Verdict.{programVerdict}

@@ -1,5 +1,5 @@
--- A program in which order shows: two sensors, two tasks and two updates due at once, two switches of one mode, a start mode that is not the
--- first, task and driver numbers that differ. Assumes nothing.
+-- A program in which order shows: two sensors, two tasks and two updates due at once, two switches of one mode, a start mode that is not
+-- the first, task and driver numbers that differ. Assumes nothing.
 use mathlib.Core.List.{[], _∷_, _++_}
 use lib.IntN.{pos}
 use Rattle.cells.specs.Reading.{noReading}
@@ -16,7 +16,10 @@ crowded =
     (numbers (0 ∷ 0 ∷ 1 ∷ 0 ∷ 0 ∷ 0 ∷ 1 ∷ 0 ∷ 2 ∷ 0 ∷ 2 ∷ 0 ∷ 3 ∷ 0 ∷ 3 ∷ 0 ∷ []))
     (numbers (1 ∷ 3 ∷ 0 ∷ 2 ∷ []))
     (numbers (0 ∷ 4 ∷ 0 ∷ 6 ∷ 1 ∷ 5 ∷ 1 ∷ 7 ∷ []))
-    (alwaysRow ++ (alwaysRow ++ (alwaysRow ++ (alwaysRow ++ (intervalRow 0 noReading noReading ++ (intervalRow 0 (pos 0) (pos 5) ++ intervalRow 2 (pos 1) (pos 1)))))))
+    (alwaysRow
+    ++ (alwaysRow
+    ++ (alwaysRow
+    ++ (alwaysRow ++ (intervalRow 0 noReading noReading ++ (intervalRow 0 (pos 0) (pos 5) ++ intervalRow 2 (pos 1) (pos 1)))))))
     (numbers
     (0 ∷ 6 ∷ 1 ∷ 1 ∷ 0 ∷ 5 ∷ 2 ∷ 7 ∷ 3 ∷ 3 ∷ 2 ∷ 4 ∷ 4 ∷ 6 ∷ 6 ∷ 4 ∷ 7 ∷ 7 ∷ 5 ∷ 6 ∷ 6 ∷ 5 ∷ 7 ∷ 7 ∷ 6 ∷ 6 ∷ 6 ∷ 6 ∷ 7 ∷ 7 ∷ []))
     (numbers (12 ∷ 6 ∷ []))

@@ -1,11 +1,9 @@
--- `acceptance::supplier_verdict` meets its contract: 1, what both calls ask, 13, then the run of every mode as it was counted; the start
--- mode and the supplier go through their bits once. Assumes nothing.
+-- `acceptance::supplier_verdict` meets its contract: 1, what both calls ask, 13, then the run of every mode as it was counted; the
+-- supplier goes through its bits once. Assumes nothing.
 use Prim.Native.Nat.{ℕ}
-use mathlib.Core.Path.{_≡_, refl, sym, ap, ap₂, subst, _∙_}
+use mathlib.Core.Path.{_≡_, sym, ap, ap₂, _∙_}
 use mathlib.Core.Bool.{Bool, false, _||_}
 use native.Mathlib.Omega.{arith}
-use mir.Syntax.{w32}
-use mir.Val.{toZ, ofZ}
 use lib.IntN.{ℤ}
 use lib.ListN.{length}
 use borrow.Author.Needs.{needs}
@@ -14,15 +12,14 @@ use Rattle.theory.proofs.Conditions.{or-else-yes, or-else-no}
 use Rattle.cells.specs.Cell.{indexOf}
 use Rattle.cells.specs.Refusals.{shapeRefused, scheduleRefused}
 use Rattle.cells.proofs.Ints.{back}
-use Rattle.program.specs.Tables.{Tables, tables, modeCount}
+use Rattle.program.specs.Tables.{tablesIn, modeCount}
 use Rattle.program.proofs.Decoded.{sensors-rows}
-use Rattle.rules.specs.Shape.{shapeBad}
+use Rattle.rules.specs.Shape.{InShape}
 use Rattle.rules.specs.Verdict.{programVerdict}
-use Rattle.rules.proofs.Shape.{shape-bars, ports-few}
 use Rattle.rules.proofs.Accepted.{accepted-fields}
 use Rattle.code.specs.Compile.{CodeFits}
 use Rattle.layout.specs.Layout.{startIn}
-use Rattle.layout.proofs.Limits.{few-rows, few-modes, few-sensors}
+use Rattle.layout.proofs.Limits.{told-most, few-sensors}
 use Rattle.runs.specs.Round.{worstBreak, nothing}
 use Rattle.suppliers.specs.Windows.{windowsShapeBad}
 use Rattle.suppliers.specs.Schedule.{partBad}
@@ -32,52 +29,40 @@ use Rattle.suppliers.proofs.Accepted.{windows-shaped, part-shaped}
 use Rattle.suppliers.proofs.Answers.{supplier-refused, supplier-judged}
 use Rattle.rounds.specs.Course.{courseOn}
 use Rattle.rounds.proofs.Courses.{judged-counted}
-use Rattle.acceptance.specs.Lent.{windowed, asked, shapedVerdict}
+use Rattle.acceptance.specs.Lent.{asked, shapedVerdict}
 use Rattle.acceptance.proofs.Calls.{shaped-accepted, part-one, part-given, part-own}
 use Rattle.acceptance.proofs.supplier_verdict.Statement.{statement}
 use Rattle.acceptance.proofs.supplier_verdict.Tie as tie
 
--- the tables that were lent, with a start mode; all that was lent
-abbrev with-start : tie.Start → ℤ → Tables
-with-start c z =
-    tables (c .args .ports .now) (c .args .tasks .now) (c .args .task-ports .now) (c .args .drivers .now) (c .args .copies .now) (c .args .modes .now)
-    (c .args .mode-ports .now) (c .args .invocations .now) (c .args .updates .now) (c .args .switches .now) z
-
-abbrev lent-with : tie.Start → ℤ → Asked
-lent-with c z = asked (with-start c z) (c .args .windows .now) (c .args .part .now) (c .args .supplier)
+-- all that was lent, with a start mode; with its own
+abbrev with-start : tie.Start → ℤ → Asked
+with-start c start = asked (tablesIn (c .args .tables .now) start) (c .args .windows .now) (c .args .part .now) (c .args .supplier)
 
 abbrev lent : tie.Start → Asked
-lent c = lent-with c (c .args .start)
+lent c = with-start c (c .args .program .start)
 
 -- number 1, whatever the start mode
-shape-told : (c : tie.After-bad-slice) (z : ℤ) → (c .before .shape-bad .result || c .bad-slice .result) ≡ partShapeBad (lent-with (c .before .before) z)
+shape-told : (c : tie.After-bad-slice) (start : ℤ)
+    → (c .before .shape-bad .result || c .bad-slice .result) ≡ partShapeBad (with-start (c .before .before) start)
 unfolding partShapeBad windowsShapeBad
-shape-told c z = ap₂ (λ (a b : Bool). a || b) (c .before .shape-bad .ensures z) (c .bad-slice .ensures)
+shape-told c start = ap₂ (λ (a b : Bool). a || b) (c .before .shape-bad .ensures start) (c .bad-slice .ensures)
 
 -- it did not apply
-shaped : (c : tie.Else1) (z : ℤ) → partShapeBad (lent-with (c .before .before .before) z) ≡ false
-shaped c z = sym (shape-told (c .before) z) ∙ c .if1 .left
+shaped : (c : tie.Else1) (start : ℤ) → partShapeBad (with-start (c .before .before .before) start) ≡ false
+shaped c start = sym (shape-told (c .before) start) ∙ c .if1 .left
 
-tables-shaped : (c : tie.Else1) (z : ℤ) → shapeBad (with-start (c .before .before .before) z) ≡ false
-tables-shaped c z =
-    let L = lent-with (c .before .before .before) z in windows-shaped (windowedOf L) (part-shaped L (shaped c z))
+in-shape : (c : tie.Else1) → InShape (c .before .before .before .args .tables .now)
+in-shape c start =
+    let L = with-start (c .before .before .before) start in windows-shaped (windowedOf L) (part-shaped L (shaped c start))
 
--- the number that both calls ask for; the start mode came back through its bits
-told : (c : tie.After-shaped-verdict) → c .shaped-verdict .result ≡ shapedVerdict (windowedOf (lent (c .before .before .before .before)))
-told c =
-    let s = c .before .before .before .before in
-    subst (λ (z : ℤ). c .shaped-verdict .result ≡ shapedVerdict (windowed (with-start s z) (lent s .windows))) (back (s .args .start) (s .fits .start .sfits))
-    (c .shaped-verdict .ensures)
-
--- it was 0: the program is accepted
+-- the number that both calls ask for was 0: the program is accepted
 none : (c : tie.Else2) → shapedVerdict (windowedOf (lent (c .before .before .before .before .before))) ≡ acceptedNumber
-none c = sym (told (c .before)) ∙ omega (arith, c .if2 .left)
+none c = sym (c .before .shaped-verdict .ensures) ∙ omega (arith, c .if2 .left)
 
 accepted : (c : tie.Else2) → (programVerdict (lent (c .before .before .before .before .before) .tables) ≡ acceptedNumber)
     × CodeFits (lent (c .before .before .before .before .before) .tables)
 accepted c =
-    let s = c .before .before .before .before .before in
-    shaped-accepted (windowedOf (lent s)) (tables-shaped (c .before .before) (s .args .start)) (none c)
+    let L = lent (c .before .before .before .before .before) in shaped-accepted (windowedOf L) (in-shape (c .before .before) (L .tables .start)) (none c)
 
 -- the supplier asked about
 own : (c : tie.After-index) → c .index .result ≡ supplierOf (lent (c .before .before .before .before .before .before))
@@ -86,26 +71,23 @@ own c =
     c .index .ensures ∙ ap indexOf (back (s .args .supplier) (s .fits .supplier .sfits))
 
 -- number 13
-part-told : (c : tie.After-refused)
-    → c .refused .result
-    ≡ partBad (lent (c .before .before .before .before .before .before .before) .tables) (lent (c .before .before .before .before .before .before .before) .part)
-    (supplierOf (lent (c .before .before .before .before .before .before .before)))
+part-told : (c : tie.After-refused) → let L = lent (c .before .before .before .before .before .before .before) in
+    c .refused .result ≡ partBad (L .tables) (L .part) (supplierOf L)
 part-told c =
     let L = lent (c .before .before .before .before .before .before .before) in
     let a = accepted (c .before .before) in
-    c .refused .ensures .1 (L .tables) refl refl refl refl refl refl (a .0) (a .1) ∙ ap (partBad (L .tables) (L .part)) (own (c .before))
+    c .refused .ensures .1 (L .tables .start) (a .0) (a .1) ∙ ap (partBad (L .tables) (L .part)) (own (c .before))
 
 -- it did not apply
-part-fits : (c : tie.Else3)
-    → partBad (lent (c .before .before .before .before .before .before .before .before) .tables) (lent (c .before .before .before .before .before .before .before .before) .part)
-    (supplierOf (lent (c .before .before .before .before .before .before .before .before)))
-    ≡ false
+part-fits : (c : tie.Else3) → let L = lent (c .before .before .before .before .before .before .before .before) in
+    partBad (L .tables) (L .part) (supplierOf L) ≡ false
 part-fits c = sym (part-told (c .before)) ∙ c .if3 .left
 
 part-passed : (c : tie.Else3) → partVerdict (lent (c .before .before .before .before .before .before .before .before)) ≡ acceptedNumber
 part-passed c =
     let e = c .before .before .before in
-    let L = lent (e .before .before .before .before .before) in part-own L (shaped (e .before .before) (L .tables .start)) (none e) ∙ or-else-no scheduleRefused acceptedNumber (part-fits c)
+    let L = lent (e .before .before .before .before .before) in
+    part-own L (shaped (e .before .before) (L .tables .start)) (none e) ∙ or-else-no scheduleRefused acceptedNumber (part-fits c)
 
 shape-bad-requires : tie.Need-shape-bad-requires
 shape-bad-requires c κs = search needs
@@ -122,7 +104,7 @@ returns c =
     c .refusal .ensures ∙ supplier-refused L shapeRefused (part-one L (sym (shape-told (c .before .before) (L .tables .start)) ∙ c .before .if1 .taken)) (λ z. omega arith)
 
 shaped-verdict-requires : tie.Need-shaped-verdict-requires
-shaped-verdict-requires c κs = tables-shaped c (toZ w32 (ofZ w32 (c .before .before .before .args .start)))
+shaped-verdict-requires c κs = in-shape c
 
 refusal-requires-2 : tie.Need-refusal-requires-2
 refusal-requires-2 c κs = search needs
@@ -132,18 +114,15 @@ returns-2 c =
     let v = c .before .before in
     let L = lent (v .before .before .before .before) in
     c .refusal2 .ensures
-    ∙ supplier-refused L (v .shaped-verdict .result) (part-given L (shaped (v .before) (L .tables .start)) (v .shaped-verdict .result) (told v) (c .before .if2 .taken))
+    ∙ supplier-refused L (v .shaped-verdict .result)
+    (part-given L (shaped (v .before) (L .tables .start)) (v .shaped-verdict .result) (v .shaped-verdict .ensures) (c .before .if2 .taken))
     (λ z. omega (arith, c .before .if2 .taken))
 
 index-requires : tie.Need-index-requires
 index-requires c κs = search needs
 
 refused-requires : tie.Need-refused-requires
-refused-requires c κs =
-    let s = c .before .before .before .before .before .before in
-    let T = lent s .tables in
-    let h = tables-shaped (c .before .before .before) (s .args .start) in
-    (few-rows T h, (few-modes T h, ports-few T (shape-bars T .ok h)))
+refused-requires c κs = in-shape (c .before .before .before)
 
 refusal-requires-3 : tie.Need-refusal-requires-3
 refusal-requires-3 c κs = search needs
@@ -157,22 +136,24 @@ returns-3 c =
     (part-own L (shaped (e .before .before) (L .tables .start)) (none e) ∙ or-else-yes scheduleRefused acceptedNumber (sym (part-told (c .before .before)) ∙ c .before .if3 .taken))
     (λ z. omega arith)
 
+element-copy-out-sensors : tie.Need-element-copy-out-sensors
+element-copy-out-sensors c = search needs
+
 sensors-requires : tie.Need-sensors-requires
 sensors-requires c κs = search needs
 
 answer-requires : tie.Need-answer-requires
 answer-requires c κs =
-    let f = c .before in
+    let f = c .before .before in
     let e = f .before .before .before in
     let L = lent (e .before .before .before .before .before) in
-    let T = L .tables in
-    let h = tables-shaped (e .before .before) (T .start) in (
-      few-rows T h,
+    let shape = in-shape (e .before .before) in (
+      shape,
       (
-        omega (arith, c .sensors .ensures, few-sensors T h),
+        told-most (c .sensors .ensures) (few-sensors (L .tables) (shape (L .tables .start))),
         (
-          λ m l. accepted-fields T (accepted e .0) .modes m l .1,
-          (few-modes T h, part-bars T (L .part) (supplierOf L) .ok (part-fits f) .rows .sorted),
+          λ m l. accepted-fields (L .tables) (accepted e .0) .modes m l .1,
+          part-bars (L .tables) (L .part) (supplierOf L) .ok (part-fits f) .rows .sorted,
         ),
       ),
     )
@@ -180,10 +161,10 @@ answer-requires c κs =
 returns-4 : tie.Need-returns-4
 returns-4 c =
     let n = c .before .sensors .result in
-    let f = c .before .before in
+    let f = c .before .before .before in
     let L = lent (f .before .before .before .before .before .before .before .before) in
     let T = L .tables in
-    c .answer .ensures T refl refl refl refl refl
+    c .answer .ensures (T .start)
     ∙ ap (λ (s : ℕ). answerFrom (λ m. worstBreak (courseOn T (L .windows) (L .part) s n m (startIn T n m)) nothing) (modeCount T) 0) (own (f .before .before))
     ∙ judged-counted L (part-passed f) n (c .before .sensors .ensures ∙ ap length (sym (sensors-rows T)))
     ∙ supplier-judged L (part-passed f)
@@ -203,6 +184,7 @@ supplier-verdict-spec =
     refused-requires
     refusal-requires-3
     returns-3
+    element-copy-out-sensors
     sensors-requires
     answer-requires
     returns-4)

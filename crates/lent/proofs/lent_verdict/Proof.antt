@@ -1,83 +1,55 @@
--- `lent::lent_verdict` meets its contract: a number up to 10, else 11 where the code is long; the start mode goes through its bits once.
--- Assumes nothing.
+-- `lent::lent_verdict` meets its contract: a number up to 10, else 11 where the code is long. Assumes nothing.
 use Prim.Native.Nat.{ℕ}
-use mathlib.Core.Path.{_≡_, refl, sym, ap, subst, _∙_}
+use mathlib.Core.Path.{_≡_, sym, ap, _∙_}
 use mathlib.Core.List.{[], _∷_}
 use native.Mathlib.Omega.{arith}
-use lib.IntN.{ℤ}
 use borrow.Author.Needs.{needs}
 use Rattle.theory.specs.Verdict.{acceptedNumber, orElse, verdict, after}
 use Rattle.theory.proofs.Conditions.{or-else-yes, or-else-no}
 use Rattle.theory.proofs.Verdict.{after-given, verdict-append}
 use Rattle.cells.specs.Refusals.{codeRefused}
-use Rattle.cells.proofs.Ints.{back}
-use Rattle.program.specs.Tables.{Tables, tables}
-use Rattle.rules.specs.Shape.{shapeBad}
+use Rattle.program.specs.Tables.{Tables, tablesIn}
 use Rattle.rules.specs.Verdict.{tableRefusals}
-use Rattle.rules.proofs.Shape.{shape-bars, ports-few}
 use Rattle.code.specs.Compile.{codeLong, longRefusal}
-use Rattle.layout.proofs.Limits.{few-rows, few-modes}
 use Rattle.lent.specs.Tables.{lentVerdict}
 use Rattle.lent.proofs.lent_verdict.Statement.{statement}
 use Rattle.lent.proofs.lent_verdict.Tie as tie
 
--- the tables that were lent, with a start mode; the program
-abbrev with-start : tie.Start → ℤ → Tables
-with-start c z =
-    tables (c .args .ports .now) (c .args .tasks .now) (c .args .task-ports .now) (c .args .drivers .now) (c .args .copies .now) (c .args .modes .now)
-    (c .args .mode-ports .now) (c .args .invocations .now) (c .args .updates .now) (c .args .switches .now) z
-
+-- the program that was lent
 abbrev lent : tie.Start → Tables
-lent c = with-start c (c .args .start)
-
--- the number up to 10 is that of the program: number 1 does not read the start mode, and it came back through its bits
-told : (c : tie.After-table-verdict) → c .table-verdict .result ≡ verdict tableRefusals (lent (c .before))
-unfolding shapeBad
-told c =
-    let s = c .before in
-    subst (λ (z : ℤ). c .table-verdict .result ≡ verdict tableRefusals (with-start s z)) (back (s .args .start) (s .fits .start .sfits))
-    (c .table-verdict .ensures (s .pre))
+lent c = tablesIn (c .args .tables .now) (c .args .program .start)
 
 -- number 11 is asked after those up to 10
-in-order : (T : Tables) → lentVerdict T ≡ after (verdict tableRefusals T) (orElse (codeLong T) codeRefused acceptedNumber)
+in-order : (T : Tables) {n : ℕ} → n ≡ verdict tableRefusals T → lentVerdict T ≡ after n (orElse (codeLong T) codeRefused acceptedNumber)
 unfolding lentVerdict
-in-order T = verdict-append tableRefusals (longRefusal ∷ []) T (omega arith)
+in-order T e =
+    verdict-append tableRefusals (longRefusal ∷ []) T (omega arith)
+    ∙ ap (λ (n : ℕ). after n (orElse (codeLong T) codeRefused acceptedNumber)) (sym e)
 
 -- none up to 10 was given: number 11 decides
 passed : (c : tie.Else1) → lentVerdict (lent (c .before .before)) ≡ orElse (codeLong (lent (c .before .before))) codeRefused acceptedNumber
 passed c =
-    let T = lent (c .before .before) in
-    let z : c .before .table-verdict .result ≡ acceptedNumber = omega (arith, c .if1 .left) in
-    in-order T ∙ ap (λ (n : ℕ). after n (orElse (codeLong T) codeRefused acceptedNumber)) (sym (told (c .before)) ∙ z)
+    let z : acceptedNumber ≡ c .before .table-verdict .result = omega (arith, c .if1 .left) in
+    in-order (lent (c .before .before)) (z ∙ c .before .table-verdict .ensures)
 
 table-verdict-requires : tie.Need-table-verdict-requires
 table-verdict-requires c κs = search needs
 
 returns : tie.Need-returns
-returns c =
-    let T = lent (c .before .before) in
-    sym
-    (in-order T
-    ∙ ap (λ (n : ℕ). after n (orElse (codeLong T) codeRefused acceptedNumber)) (sym (told (c .before)))
-    ∙ after-given (c .before .table-verdict .result) _ (c .if1 .taken))
+returns c = sym (in-order (lent (c .before .before)) (c .before .table-verdict .ensures) ∙ after-given _ _ (c .if1 .taken))
 
 code-long-requires : tie.Need-code-long-requires
-code-long-requires c κs =
-    let s = c .before .before in
-    let T = lent s in
-    (few-rows T (s .pre), (few-modes T (s .pre), ports-few T (shape-bars T .ok (s .pre))))
+code-long-requires c κs = search needs
 
 returns-2 : tie.Need-returns-2
 returns-2 c =
     let T = lent (c .before .before .before .before) in
-    sym (passed (c .before .before)
-    ∙ or-else-yes codeRefused acceptedNumber (sym (c .before .code-long .ensures T refl refl refl refl refl) ∙ c .if2 .taken))
+    sym (passed (c .before .before) ∙ or-else-yes codeRefused acceptedNumber (sym (c .before .code-long .ensures (T .start)) ∙ c .if2 .taken))
 
 returns-3 : tie.Need-returns-3
 returns-3 c =
     let T = lent (c .before .before .before .before) in
-    sym (passed (c .before .before)
-    ∙ or-else-no codeRefused acceptedNumber (sym (c .before .code-long .ensures T refl refl refl refl refl) ∙ c .if2 .left))
+    sym (passed (c .before .before) ∙ or-else-no codeRefused acceptedNumber (sym (c .before .code-long .ensures (T .start)) ∙ c .if2 .left))
 
 pub lent-verdict-spec : {M : Type 1} → statement M
 lent-verdict-spec =

@@ -1,4 +1,4 @@
--- `cases::tables::fill` is safe and ends, and keeps no more than the buffer holds: both buffers keep their lengths. Assumes nothing.
+-- `cases::tables::fill` is safe and ends: the buffers keep their lengths. Assumes nothing.
 use Prim.Native.Nat.{_-_}
 use mathlib.Core.Path.{_≡_}
 use lib.ListN.{length}
@@ -7,16 +7,16 @@ use Rattle.cases.proofs.tables.fill.Statement.{statement}
 use Rattle.cases.proofs.tables.fill.Tie as tie
 
 abbrev Inv-loop : tie.InvT-loop
-Inv-loop buffer₀ n out₀ reader₀ i₀ buffer out reader i = (length buffer ≡ length buffer₀) × (length out ≡ length out₀)
+Inv-loop buffer₀ n values₀ words₀ signed reader₀ i₀ buffer values words reader i = (length buffer ≡ length buffer₀) × (length values ≡ length values₀) × (length words ≡ length words₀)
 
 abbrev μ-loop : tie.MeasureT-loop
-μ-loop buffer₀ n out₀ reader₀ i₀ buffer out reader i = n - i
+μ-loop buffer₀ n values₀ words₀ signed reader₀ i₀ buffer values words reader i = n - i
 
 loop-holds : tie.Need-loop-holds Inv-loop μ-loop
 loop-holds c = search needs
 
-signed-requires : tie.Need-signed-requires Inv-loop μ-loop
-signed-requires c κs = search needs
+next-requires : tie.Need-next-requires Inv-loop μ-loop
+next-requires c κs = search needs
 
 same-length : tie.Need-same-length Inv-loop μ-loop
 same-length c = search needs
@@ -24,11 +24,11 @@ same-length c = search needs
 same-length-2 : tie.Need-same-length-2 Inv-loop μ-loop
 same-length-2 c = search needs
 
+same-length-3 : tie.Need-same-length-3 Inv-loop μ-loop
+same-length-3 c = search needs
+
 returns : tie.Need-returns Inv-loop μ-loop
 returns c = search needs
-
-put-value-requires : tie.Need-put-value-requires Inv-loop μ-loop
-put-value-requires c κs = search needs
 
 add-i : tie.Need-add-i Inv-loop μ-loop
 add-i c = search needs
@@ -39,14 +39,14 @@ loop-less c = search needs
 loop-again : tie.Need-loop-again Inv-loop μ-loop
 loop-again c = search needs
 
-least-requires : tie.Need-least-requires Inv-loop μ-loop
-least-requires c κs = search needs
-
-same-length-3 : tie.Need-same-length-3 Inv-loop μ-loop
-same-length-3 c = search needs
-
 same-length-4 : tie.Need-same-length-4 Inv-loop μ-loop
 same-length-4 c = search needs
+
+same-length-5 : tie.Need-same-length-5 Inv-loop μ-loop
+same-length-5 c = search needs
+
+same-length-6 : tie.Need-same-length-6 Inv-loop μ-loop
+same-length-6 c = search needs
 
 returns-2 : tie.Need-returns-2 Inv-loop μ-loop
 returns-2 c = search needs
@@ -58,15 +58,15 @@ fill-spec =
     Inv-loop
     μ-loop
     loop-holds
-    signed-requires
+    next-requires
     same-length
     same-length-2
+    same-length-3
     returns
-    put-value-requires
     add-i
     loop-less
     loop-again
-    least-requires
-    same-length-3
     same-length-4
+    same-length-5
+    same-length-6
     returns-2)

@@ -1,23 +1,23 @@
 -- `compiler::listing::all_modes` meets its contract: after so many modes their blocks are written. Assumes nothing.
-use Prim.Native.Nat.{ℕ, _-_, _≤_, _<_}
-use mathlib.Core.Path.{_≡_, refl, sym, ap, subst, _∙_}
+use Prim.Native.Nat.{ℕ, _-_, _<_}
+use mathlib.Core.Path.{_≡_, ap, _∙_}
+use mathlib.Core.Bool.{false}
 use mathlib.Core.List.{List}
-use native.Mathlib.Nat.{le-trans}
 use native.Mathlib.Omega.{arith}
-use lib.IntN.{ℤ}
+use lib.IntN.{ℤ, pos}
 use lib.ListN.{length}
 use borrow.Author.Needs.{needs}
-use Rattle.cells.specs.Cell.{rowsIn}
 use Rattle.cells.specs.Limits.{maxModes}
-use Rattle.program.specs.Tables.{Tables, modeWidth, modeCount}
+use Rattle.program.specs.Tables.{Tables, tablesIn, modeCount}
 use Rattle.program.specs.Sets.{sensorRows}
+use Rattle.rules.specs.Shape.{shapeBad}
 use Rattle.layout.specs.Layout.{sizeIn}
+use Rattle.layout.proofs.Limits.{few-rows, few-modes, few-sensors}
 use Rattle.layout.proofs.Laid.{start-near}
 use Rattle.compiler.specs.Written.{Words, written, writes}
 use Rattle.compiler.specs.Modes.{modeIn, modeStart}
-use Rattle.compiler.proofs.Parts.{sensors-most}
 use Rattle.compiler.proofs.Grown.{Grown, grown-none, grown-more, grown-all, grown-length, grown-at}
-use Rattle.compiler.proofs.Modes.{having, mode-length}
+use Rattle.compiler.proofs.Modes.{mode-length}
 use Rattle.compiler.proofs.listing.all_modes.Statement.{statement}
 use Rattle.compiler.proofs.listing.all_modes.Tie as tie
 
@@ -26,56 +26,62 @@ abbrev piece : Tables → List ℕ → ℕ → List Words
 piece T entries m = modeIn T entries m (modeStart T m)
 
 abbrev Inv-loop : tie.InvT-loop
-Inv-loop code₀ ports modes invocations updates switches entries sensors n at₀ m₀ code at m =
-    (T : Tables) → T .ports ≡ ports → T .modes ≡ modes → T .invocations ≡ invocations → T .updates ≡ updates → T .switches ≡ switches
-    → Grown (piece T entries) (modeCount T) m (written code₀ 1) (written code at)
+Inv-loop code₀ lent entries sensors n at₀ m₀ code at m =
+    (start : ℤ) → let T = tablesIn lent start in Grown (piece T entries) (modeCount T) m (written code₀ 1) (written code at)
 
 abbrev μ-loop : tie.MeasureT-loop
-μ-loop code₀ ports modes invocations updates switches entries sensors n at₀ m₀ code at m = rowsIn modeWidth modes - m
+μ-loop code₀ lent entries sensors n at₀ m₀ code at m = modeCount (tablesIn lent (pos 0)) - m
 
--- a program that has the tables
-abbrev lent : tie.Start Inv-loop μ-loop → Tables
-lent s = having (s .args .ports .now) (s .args .modes .now) (s .args .invocations .now) (s .args .updates .now) (s .args .switches .now)
+-- where the loop began, and the tables that were lent, with a start mode; whatever it is, they have their shape
+abbrev start-of : tie.At-loop Inv-loop μ-loop → tie.Start Inv-loop μ-loop
+start-of c = c .before .before .before
+
+abbrev lent : tie.Start Inv-loop μ-loop → ℤ → Tables
+lent s start = tablesIn (s .args .tables .now) start
+
+shape : (s : tie.Start Inv-loop μ-loop) → shapeBad (lent s (pos 0)) ≡ false
+shape s = s .pre .0 (pos 0)
 
 -- the next mode stands where the modes before it end
-here : (T : Tables) (entries : List ℕ) {n m at : ℕ} {before code : List ℕ} → Grown (piece T entries) n m (written before 1) (written code at) → at ≡ modeStart T m
-here T entries h = grown-at h (sizeIn T (length (sensorRows (T .ports) (λ p. p)))) (λ k l. mode-length T entries k (modeStart T k))
+here : (c : tie.At-loop Inv-loop μ-loop) (start : ℤ) → c .loop .at ≡ modeStart (lent (start-of c) start) (c .loop .m)
+here c start =
+    let s = start-of c in
+    let T = lent s start in
+    grown-at (c .loop .inv start) (sizeIn T (length (sensorRows (T .ports) (λ (p : ℕ). p)))) (λ k l. mode-length T (s .args .entries .now) k (modeStart T k))
+
+element-copy-out-n : tie.Need-element-copy-out-n Inv-loop μ-loop
+element-copy-out-n c = search needs
 
 loop-holds : tie.Need-loop-holds Inv-loop μ-loop
-loop-holds c T e f g h i = grown-none
+loop-holds c start = grown-none
 
 one-mode-requires : tie.Need-one-mode-requires Inv-loop μ-loop
 one-mode-requires c κs =
-    let s = c .before .before .before .before .before in
-    let l = c .before .before .loop in
-    let ports = s .args .ports .now in
-    let below : l .m < maxModes = omega (arith, c .before .loop-test .taken, s .pre .1 .1 .1 .1) in
-    let few = le-trans (sensors-most ports (λ (p : ℕ). p)) (s .pre .0 .ports) in
-    let near =
-    start-near (lent s) (length (sensorRows ports (λ (p : ℕ). p))) (s .pre .0 .rows) few (l .m) below
-    (here (lent s) (s .args .entries .now) (l .inv (lent s) refl refl refl refl refl)) in
-    (s .pre .0, (s .pre .1 .0, (s .pre .1 .1 .0, (s .pre .1 .1 .1 .0, (c .before .loop-test .taken, (below, omega (arith, near)))))))
+    let l = c .before .before in
+    let s = start-of l in
+    let T = lent s (pos 0) in
+    let below : l .loop .m < maxModes = omega (arith, c .before .loop-test .taken, few-modes T (shape s)) in
+    let near = start-near T _ (few-rows T (shape s)) (few-sensors T (shape s)) (l .loop .m) below (here l (pos 0)) in
+    (s .pre .0, (s .pre .1 .0, (s .pre .1 .1 .0, (s .pre .1 .1 .1, (c .before .loop-test .taken, (below, omega (arith, near)))))))
 
 add-m : tie.Need-add-m Inv-loop μ-loop
-add-m c = record { fits = omega (arith, c .before .before .before .before .loop-test .taken, c .before .before .before .before .before .before .before .before .pre .1 .1 .1 .1) }
+add-m c = let s = start-of (c .before .before .before .before .before) in record { fits = omega (arith, c .before .before .before .before .loop-test .taken, few-modes (lent s (pos 0)) (shape s)) }
 
 loop-less : tie.Need-loop-less Inv-loop μ-loop
 loop-less c = search needs
 
 loop-again : tie.Need-loop-again Inv-loop μ-loop
-loop-again c T e f g h i =
-    let a = c .before .before .before .before .before .before .before .before .args in
-    let l = c .before .before .before .before .before .loop in
-    let so-far = l .inv T e f g h i in
-    grown-more so-far (subst (λ (t : List ℤ). l .m < rowsIn modeWidth t) (sym f) (c .before .before .before .before .loop-test .taken))
-    (c .before .before .one-mode .ensures T e f g h i ∙ ap (λ (at : ℕ). writes (modeIn T (a .entries .now) (l .m) at) (written (l .code) (l .at))) (here T (a .entries .now) so-far))
+loop-again c start =
+    let l = c .before .before .before .before .before in
+    let s = start-of l in
+    grown-more (l .loop .inv start) (c .before .before .before .before .loop-test .taken)
+    (c .before .before .one-mode .ensures start ∙ ap (λ (at : ℕ). writes (modeIn (lent s start) (s .args .entries .now) (l .loop .m) at) (written (l .loop .code) (l .loop .at))) (here l start))
 
 same-length : tie.Need-same-length Inv-loop μ-loop
-same-length c = grown-length (c .before .loop .inv (lent (c .before .before .before .before)) refl refl refl refl refl)
+same-length c = grown-length (c .before .loop .inv (pos 0))
 
 returns : tie.Need-returns Inv-loop μ-loop
-returns c T e f g h i =
-    grown-all (c .before .loop .inv T e f g h i) (subst (λ (t : List ℤ). rowsIn modeWidth t ≤ c .before .loop .m) (sym f) (c .loop-test .left))
+returns c start = grown-all (c .before .loop .inv start) (c .loop-test .left)
 
 pub all-modes-spec : {M : Type 1} → statement M
 all-modes-spec =
@@ -83,6 +89,7 @@ all-modes-spec =
     (tie.spec
     Inv-loop
     μ-loop
+    element-copy-out-n
     loop-holds
     one-mode-requires
     add-m

@@ -1,9 +1,17 @@
 -- `fields::ranges::copy_bad` meets its contract: each field read is the definition's column. Assumes nothing.
-use mathlib.Core.Path.{refl}
 use borrow.Author.Needs.{needs}
 use Rattle.rules.specs.Fields.{copyBad}
 use Rattle.fields.proofs.ranges.copy_bad.Statement.{statement}
 use Rattle.fields.proofs.ranges.copy_bad.Tie as tie
+
+element-copy-out-ports : tie.Need-element-copy-out-ports
+element-copy-out-ports c = search needs
+
+element-copy-out-drivers : tie.Need-element-copy-out-drivers
+element-copy-out-drivers c = search needs
+
+element-copy-out-copies : tie.Need-element-copy-out-copies
+element-copy-out-copies c = search needs
 
 driver-requires : tie.Need-driver-requires
 driver-requires c κs = search needs
@@ -25,7 +33,7 @@ index-requires-3 c κs = search needs
 
 returns : tie.Need-returns
 unfolding copyBad
-returns c T e1 e2 e3 =
+returns c start =
     simp (
       c .index3 .ensures,
       c .before .port2 .ensures,
@@ -33,16 +41,15 @@ returns c T e1 e2 e3 =
       c .before .before .before .port .ensures,
       c .before .before .before .before .index .ensures,
       c .before .before .before .before .before .driver .ensures,
-      e1,
-      e2,
-      e3,
     )
-    refl
 
 pub copy-bad-spec : {M : Type 1} → statement M
 copy-bad-spec =
     tie.close
     (tie.spec
+    element-copy-out-ports
+    element-copy-out-drivers
+    element-copy-out-copies
     driver-requires
     index-requires
     port-requires

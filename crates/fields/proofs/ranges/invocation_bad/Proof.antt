@@ -4,6 +4,18 @@ use Rattle.rules.specs.Fields.{invocationBad}
 use Rattle.fields.proofs.ranges.invocation_bad.Statement.{statement}
 use Rattle.fields.proofs.ranges.invocation_bad.Tie as tie
 
+element-copy-out-tasks : tie.Need-element-copy-out-tasks
+element-copy-out-tasks c = search needs
+
+element-copy-out-drivers : tie.Need-element-copy-out-drivers
+element-copy-out-drivers c = search needs
+
+element-copy-out-modes : tie.Need-element-copy-out-modes
+element-copy-out-modes c = search needs
+
+element-copy-out-invocations : tie.Need-element-copy-out-invocations
+element-copy-out-invocations c = search needs
+
 mode-requires : tie.Need-mode-requires
 mode-requires c κs = search needs
 
@@ -30,7 +42,7 @@ in-range-requires c κs = search needs
 
 returns : tie.Need-returns
 unfolding invocationBad
-returns c T e1 e2 e3 e4 =
+returns c start =
     simp (
       c .in-range .ensures,
       c .before .index3 .ensures,
@@ -40,16 +52,16 @@ returns c T e1 e2 e3 e4 =
       c .before .before .before .before .before .field .ensures,
       c .before .before .before .before .before .before .index .ensures,
       c .before .before .before .before .before .before .before .mode .ensures,
-      e1,
-      e2,
-      e3,
-      e4,
     )
 
 pub invocation-bad-spec : {M : Type 1} → statement M
 invocation-bad-spec =
     tie.close
     (tie.spec
+    element-copy-out-tasks
+    element-copy-out-drivers
+    element-copy-out-modes
+    element-copy-out-invocations
     mode-requires
     index-requires
     field-requires

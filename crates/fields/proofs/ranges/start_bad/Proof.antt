@@ -19,9 +19,10 @@ index-requires-2 c κs = search needs
 returns : tie.Need-returns
 unfolding startBad
 returns c T e1 e2 =
-    let start = c .before .before .before .args .start in
+    let told = c .before .before .before in
+    let start = told .before .args .program .start in
     let i : c .before .before .index .result ≡ indexOf start =
-    c .before .before .index .ensures ∙ ap indexOf (back start (c .before .before .before .fits .start .sfits)) in
+    c .before .before .index .ensures ∙ ap indexOf (back start (told .struct-told .given .0 .1)) in
     simp (c .index2 .ensures, c .before .of .ensures, i, e1, e2)
 
 pub start-bad-spec : {M : Type 1} → statement M

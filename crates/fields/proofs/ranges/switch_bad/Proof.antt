@@ -4,6 +4,15 @@ use Rattle.rules.specs.Fields.{switchBad}
 use Rattle.fields.proofs.ranges.switch_bad.Statement.{statement}
 use Rattle.fields.proofs.ranges.switch_bad.Tie as tie
 
+element-copy-out-drivers : tie.Need-element-copy-out-drivers
+element-copy-out-drivers c = search needs
+
+element-copy-out-modes : tie.Need-element-copy-out-modes
+element-copy-out-modes c = search needs
+
+element-copy-out-switches : tie.Need-element-copy-out-switches
+element-copy-out-switches c = search needs
+
 mode-requires : tie.Need-mode-requires
 mode-requires c κs = search needs
 
@@ -30,7 +39,7 @@ in-range-requires c κs = search needs
 
 returns : tie.Need-returns
 unfolding switchBad
-returns c T e1 e2 e3 =
+returns c start =
     simp (
       c .in-range .ensures,
       c .before .index3 .ensures,
@@ -40,15 +49,15 @@ returns c T e1 e2 e3 =
       c .before .before .before .before .before .field .ensures,
       c .before .before .before .before .before .before .index .ensures,
       c .before .before .before .before .before .before .before .mode .ensures,
-      e1,
-      e2,
-      e3,
     )
 
 pub switch-bad-spec : {M : Type 1} → statement M
 switch-bad-spec =
     tie.close
     (tie.spec
+    element-copy-out-drivers
+    element-copy-out-modes
+    element-copy-out-switches
     mode-requires
     index-requires
     field-requires

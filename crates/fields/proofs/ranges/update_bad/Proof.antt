@@ -4,6 +4,15 @@ use Rattle.rules.specs.Fields.{updateBad}
 use Rattle.fields.proofs.ranges.update_bad.Statement.{statement}
 use Rattle.fields.proofs.ranges.update_bad.Tie as tie
 
+element-copy-out-drivers : tie.Need-element-copy-out-drivers
+element-copy-out-drivers c = search needs
+
+element-copy-out-modes : tie.Need-element-copy-out-modes
+element-copy-out-modes c = search needs
+
+element-copy-out-updates : tie.Need-element-copy-out-updates
+element-copy-out-updates c = search needs
+
 mode-requires : tie.Need-mode-requires
 mode-requires c κs = search needs
 
@@ -24,7 +33,7 @@ in-range-requires c κs = search needs
 
 returns : tie.Need-returns
 unfolding updateBad
-returns c T e1 e2 e3 =
+returns c start =
     simp (
       c .in-range .ensures,
       c .before .index2 .ensures,
@@ -32,15 +41,15 @@ returns c T e1 e2 e3 =
       c .before .before .before .field .ensures,
       c .before .before .before .before .index .ensures,
       c .before .before .before .before .before .mode .ensures,
-      e1,
-      e2,
-      e3,
     )
 
 pub update-bad-spec : {M : Type 1} → statement M
 update-bad-spec =
     tie.close
     (tie.spec
+    element-copy-out-drivers
+    element-copy-out-modes
+    element-copy-out-updates
     mode-requires
     index-requires
     field-requires

@@ -1,23 +1,20 @@
 -- `layout::delays::fill` meets its contract: after m modes the marks are those of the first m, and the next one begins behind them.
 -- Assumes nothing.
-use Prim.Native.Nat.{_-_, _≤_, _<_}
-use mathlib.Core.Path.{_≡_, refl, sym, ap, _∙_}
-use mathlib.Core.List.{List}
-use native.Mathlib.Nat.{le-trans}
+use Prim.Native.Nat.{ℕ, _-_, _≤_, _<_}
+use mathlib.Core.Path.{_≡_, sym, ap, _∙_}
 use native.Mathlib.Omega.{arith}
-use lib.IntN.{ℤ}
+use lib.IntN.{ℤ, pos}
 use lib.ListN.{length, length-set}
 use borrow.Author.Needs.{needs}
-use Rattle.theory.proofs.Lists.{those-few}
 use Rattle.cells.specs.Cell.{rowsIn}
 use Rattle.cells.specs.Limits.{maxPorts, maxModes}
-use Rattle.program.specs.Tables.{Tables, modeWidth, modeCount}
+use Rattle.program.specs.Tables.{tableAt, modesAt, tablesIn, modeWidth, modeCount}
 use Rattle.program.specs.Sets.{sensorRows}
 use Rattle.program.specs.Units.{units}
 use Rattle.program.proofs.Decoded.{sensors-rows}
 use Rattle.layout.specs.Layout.{unitCounts, sizeIn}
 use Rattle.layout.specs.Delays.{unitsMarked, ticksIn, modesMarked}
-use Rattle.layout.proofs.Limits.{lent, told-most}
+use Rattle.layout.proofs.Limits.{told-most, few-rows, few-modes, few-sensors}
 use Rattle.layout.proofs.Laid.{start-near}
 use Rattle.layout.proofs.Walked.{Walking, walked-none, walked-more, walked-all, walked-keeps, walked-length}
 use Rattle.layout.proofs.Marks.{listing-marked}
@@ -25,58 +22,67 @@ use Rattle.layout.proofs.delays.fill.Statement.{statement}
 use Rattle.layout.proofs.delays.fill.Tie as tie
 
 abbrev Inv-loop : tie.InvT-loop
-Inv-loop ports modes invocations updates switches delays₀ sensors n at₀ m₀ delays at m =
-    (T : Tables) → T .modes ≡ modes → T .invocations ≡ invocations → T .updates ≡ updates → T .switches ≡ switches
-    → Walking (sizeIn T sensors) (λ m at table. unitsMarked (unitCounts T sensors m) (ticksIn T m) at (units T m) table) 1 (rowsIn modeWidth modes) delays₀ m at delays
+Inv-loop tables delays₀ sensors n at₀ m₀ delays at m =
+    (start : ℤ) → let T = tablesIn tables start in
+    Walking (sizeIn T sensors) (λ m at table. unitsMarked (unitCounts T sensors m) (ticksIn T m) at (units T m) table) 1 (modeCount T) delays₀ m at delays
 
 abbrev μ-loop : tie.MeasureT-loop
-μ-loop ports modes invocations updates switches delays₀ sensors n at₀ m₀ delays at m = rowsIn modeWidth modes - m
+μ-loop tables delays₀ sensors n at₀ m₀ delays at m = rowsIn modeWidth (tableAt tables modesAt) - m
+
+element-copy-out-sensors : tie.Need-element-copy-out-sensors Inv-loop μ-loop
+element-copy-out-sensors c = search needs
 
 sensors-requires : tie.Need-sensors-requires Inv-loop μ-loop
 sensors-requires c κs = search needs
 
+element-copy-out-n : tie.Need-element-copy-out-n Inv-loop μ-loop
+element-copy-out-n c = search needs
+
 loop-holds : tie.Need-loop-holds Inv-loop μ-loop
-loop-holds c T d e f g = walked-none _ _ _ _ _
+loop-holds c start = walked-none _ _ _ _ _
 
 mark-mode-requires : tie.Need-mark-mode-requires Inv-loop μ-loop
 mark-mode-requires c κs =
-    let s = c .before .before .before .before .before in
-    let T = lent (s .args .modes .now) (s .args .invocations .now) (s .args .updates .now) (s .args .switches .now) in
+    let s = c .before .before .before .before .before .before in
+    let shape = s .pre (pos 0) in
+    let T = tablesIn (s .args .tables .now) (pos 0) in
     let l = c .before .before .loop in
     let sensors = c .before .before .before .sensors in
-    let few : sensors .result ≤ maxPorts = told-most (sensors .ensures) (le-trans (those-few _ (λ p. p) _ 0) (s .pre .1 .1)) in
-    let small : l .m < maxModes = omega (arith, c .before .loop-test .taken, s .pre .1 .0) in
-    (s .pre .0, (few, (small, start-near T (sensors .result) (s .pre .0) few (l .m) small (l .inv T refl refl refl refl .ends))))
+    let few : sensors .result ≤ maxPorts = told-most (sensors .ensures) (few-sensors T shape) in
+    let small : l .m < maxModes = omega (arith, c .before .loop-test .taken, few-modes T shape) in
+    (s .pre, (few, (small, start-near T (sensors .result) (few-rows T shape) few (l .m) small (l .inv (pos 0) .ends))))
 
 add-m : tie.Need-add-m Inv-loop μ-loop
-add-m c = search needs
+add-m c =
+    let s = c .before .before .before .before .before .before .before .before .before in
+    record { fits = omega (arith, c .before .before .before .before .loop-test .taken, few-modes (tablesIn (s .args .tables .now) (pos 0)) (s .pre (pos 0))) }
 
 loop-less : tie.Need-loop-less Inv-loop μ-loop
 loop-less c = search needs
 
 loop-again : tie.Need-loop-again Inv-loop μ-loop
-loop-again c T d e f g =
+loop-again c start =
     let mode = c .before .before .mark-mode in
-    walked-more _ _ _ _ _ _ _ _ _ _ (c .before .before .before .before .loop-test .taken) (mode .ensures .1 T e f g) (mode .ensures .0 T d e f g)
-    (c .before .before .before .before .before .loop .inv T d e f g)
+    walked-more _ _ _ _ _ _ _ _ _ _ (c .before .before .before .before .loop-test .taken) (mode .ensures .1 start) (mode .ensures .0 start)
+    (c .before .before .before .before .before .loop .inv start)
 
 same-length : tie.Need-same-length Inv-loop μ-loop
 same-length c =
-    let s = c .before .before .before .before in
-    let T = lent (s .args .modes .now) (s .args .invocations .now) (s .args .updates .now) (s .args .switches .now) in
-    walked-length _ _ _ (c .before .loop .inv T refl refl refl refl) (λ m at t. walked-keeps _ _ at (λ k b r. length-set r _ _) (units T m) t)
+    let T = tablesIn (c .before .before .before .before .before .args .tables .now) (pos 0) in
+    walked-length _ _ _ (c .before .loop .inv (pos 0)) (λ m at t. walked-keeps _ _ at (λ k b r. length-set r _ _) (units T m) t)
 
 returns : tie.Need-returns Inv-loop μ-loop
 returns c =
-    let s = c .before .before .before .before in
+    let s = c .before .before .before .before .before in
+    let lent = s .args .tables .now in
     let table = s .args .delays .now in
-    let counted : (T : Tables) → T .ports ≡ s .args .ports .now → T .modes ≡ s .args .modes .now → T .invocations ≡ s .args .invocations .now
-    → T .updates ≡ s .args .updates .now → T .switches ≡ s .args .switches .now
-    → c .before .loop .delays ≡ modesMarked T (length (sensorRows (T .ports) (λ p. p))) (modeCount T) table =
-    λ T p d e f g.
-    walked-all _ _ _ _ _ _ _ _ (c .loop-test .left) (c .before .loop .inv T d e f g) .0
-    ∙ (λ i. modesMarked T ((c .before .before .sensors .ensures ∙ ap (λ (t : List ℤ). length (sensorRows t (λ p. p))) (sym p)) i) (rowsIn modeWidth (sym d i)) table) in
-    (counted, λ T p d e f g v. counted T p d e f g ∙ sym (listing-marked T _ (ap length (sym (sensors-rows T))) v table))
+    let counted : (start : ℤ) → let T = tablesIn lent start in
+    c .before .loop .delays ≡ modesMarked T (length (sensorRows (T .ports) (λ p. p))) (modeCount T) table =
+    λ start.
+    let T = tablesIn lent start in
+    walked-all _ _ _ _ _ _ _ _ (c .loop-test .left) (c .before .loop .inv start) .0
+    ∙ ap (λ (n : ℕ). modesMarked T n (modeCount T) table) (c .before .before .sensors .ensures) in
+    (counted, λ start v. counted start ∙ sym (listing-marked (tablesIn lent start) _ (ap length (sym (sensors-rows (tablesIn lent start)))) v table))
 
 pub fill-spec : {M : Type 1} → statement M
 fill-spec =
@@ -84,7 +90,9 @@ fill-spec =
     (tie.spec
     Inv-loop
     μ-loop
+    element-copy-out-sensors
     sensors-requires
+    element-copy-out-n
     loop-holds
     mark-mode-requires
     add-m

@@ -1,29 +1,35 @@
 -- `modes::invocations::first_wrong_invocation` meets its contract: the search asks the test of each row. Assumes nothing.
-use Prim.Native.Nat.{_/_, _-_}
-use mathlib.Core.Path.{_≡_, sym, _∙_}
+use Prim.Native.Nat.{_-_}
+use mathlib.Core.Path.{sym, ap, _∙_}
 use borrow.Author.Needs.{needs}
+use lib.IntN.{ℤ}
+use Rattle.theory.specs.Search.{first}
 use Rattle.theory.proofs.Search.{Passed, passed-none, passed-more, first-found, first-none}
-use Rattle.cells.proofs.Rows.{first-rows}
-use lib.ListN.{length}
-use Rattle.program.specs.Tables.{Tables, invocationWidth}
+use Rattle.program.specs.Tables.{tablesIn}
 use Rattle.rules.specs.Modes.{invocationWrong}
 use Rattle.modes.proofs.invocations.first_wrong_invocation.Statement.{statement}
 use Rattle.modes.proofs.invocations.first_wrong_invocation.Tie as tie
 
 abbrev Inv-loop : tie.InvT-loop
-Inv-loop ports task-ports drivers copies mode-ports invocations n i₀ i = (T : Tables) → T .ports ≡ ports → T .taskPorts ≡ task-ports → T .drivers ≡ drivers → T .copies ≡ copies → T .modePorts ≡ mode-ports → T .invocations ≡ invocations → Passed (invocationWrong T) (length invocations / invocationWidth) i
+Inv-loop lent n i₀ i = (start : ℤ) → Passed (invocationWrong (tablesIn lent start)) n i
 
 abbrev μ-loop : tie.MeasureT-loop
-μ-loop ports task-ports drivers copies mode-ports invocations n i₀ i = length invocations / invocationWidth - i
+μ-loop lent n i₀ i = n - i
+
+count-requires : tie.Need-count-requires Inv-loop μ-loop
+count-requires c κs = search needs
 
 loop-holds : tie.Need-loop-holds Inv-loop μ-loop
-loop-holds c T e1 e2 e3 e4 e5 e6 = passed-none _ _
+loop-holds c start = passed-none _ _
 
 invocation-wrong-requires : tie.Need-invocation-wrong-requires Inv-loop μ-loop
 invocation-wrong-requires c κs = search needs
 
 returns : tie.Need-returns Inv-loop μ-loop
-returns c T e1 e2 e3 e4 e5 e6 = first-found _ _ _ (c .before .before .before .loop .inv T e1 e2 e3 e4 e5 e6) (c .before .before .loop-test .taken) (sym (c .before .invocation-wrong .ensures T e1 e2 e3 e4 e5 e6) ∙ c .if1 .taken) ∙ sym (first-rows _ _ e6)
+returns c start =
+    let loop = c .before .before in
+    first-found _ _ _ (loop .before .loop .inv start) (loop .loop-test .taken) (sym (c .before .invocation-wrong .ensures start) ∙ c .if1 .taken)
+    ∙ ap (first _) (loop .before .before .count .ensures start)
 
 add-i : tie.Need-add-i Inv-loop μ-loop
 add-i c = search needs
@@ -32,10 +38,12 @@ loop-less : tie.Need-loop-less Inv-loop μ-loop
 loop-less c = search needs
 
 loop-again : tie.Need-loop-again Inv-loop μ-loop
-loop-again c T e1 e2 e3 e4 e5 e6 = passed-more _ _ _ (c .before .before .before .loop .inv T e1 e2 e3 e4 e5 e6) (c .before .before .loop-test .taken) (sym (c .before .invocation-wrong .ensures T e1 e2 e3 e4 e5 e6) ∙ c .if1 .left)
+loop-again c start =
+    let loop = c .before .before in
+    passed-more _ _ _ (loop .before .loop .inv start) (loop .loop-test .taken) (sym (c .before .invocation-wrong .ensures start) ∙ c .if1 .left)
 
 returns-2 : tie.Need-returns-2 Inv-loop μ-loop
-returns-2 c T e1 e2 e3 e4 e5 e6 = first-none _ _ _ (c .before .loop .inv T e1 e2 e3 e4 e5 e6) (c .loop-test .left) ∙ sym (first-rows _ _ e6)
+returns-2 c start = first-none _ _ _ (c .before .loop .inv start) (c .loop-test .left) ∙ ap (first _) (c .before .before .count .ensures start)
 
 pub first-wrong-invocation-spec : {M : Type 1} → statement M
 first-wrong-invocation-spec =
@@ -43,6 +51,7 @@ first-wrong-invocation-spec =
     (tie.spec
     Inv-loop
     μ-loop
+    count-requires
     loop-holds
     invocation-wrong-requires
     returns

@@ -1,9 +1,28 @@
 -- `modes::invocations::invocation_wrong` meets its contract: each part of the rule is asked of the row. Assumes nothing.
 use mathlib.Core.Path.{refl}
-use Rattle.rules.specs.Modes.{invocationWrong}
 use borrow.Author.Needs.{needs}
+use Rattle.program.specs.Tables.{tablesIn}
+use Rattle.rules.specs.Modes.{invocationWrong}
 use Rattle.modes.proofs.invocations.invocation_wrong.Statement.{statement}
 use Rattle.modes.proofs.invocations.invocation_wrong.Tie as tie
+
+element-copy-out-ports : tie.Need-element-copy-out-ports
+element-copy-out-ports c = search needs
+
+element-copy-out-task-ports : tie.Need-element-copy-out-task-ports
+element-copy-out-task-ports c = search needs
+
+element-copy-out-drivers : tie.Need-element-copy-out-drivers
+element-copy-out-drivers c = search needs
+
+element-copy-out-copies : tie.Need-element-copy-out-copies
+element-copy-out-copies c = search needs
+
+element-copy-out-mode-ports : tie.Need-element-copy-out-mode-ports
+element-copy-out-mode-ports c = search needs
+
+element-copy-out-invocations : tie.Need-element-copy-out-invocations
+element-copy-out-invocations c = search needs
 
 mode-requires : tie.Need-mode-requires
 mode-requires c κs = search needs
@@ -34,12 +53,20 @@ has-invocation-clash-requires c κs = search needs
 
 returns : tie.Need-returns
 unfolding invocationWrong
-returns c T e1 e2 e3 e4 e5 e6 = simp (c .has-invocation-clash .ensures T e1 e2 e6, c .before .is-always .ensures T e3, c .before .before .some-input-no-destination .ensures T e1 e2 e4, c .before .before .before .some-destination-no-input .ensures T e1 e2 e4, c .before .before .before .before .some-source-unreadable .ensures T e1 e3 e4 e5, c .before .before .before .before .before .some-output-no-mode-port .ensures T e1 e2 e5, c .before .before .before .before .before .before .driver .ensures, c .before .before .before .before .before .before .before .task .ensures, c .before .before .before .before .before .before .before .before .mode .ensures, ← e6) refl
+returns c start =
+    let T = tablesIn (c .before .before .before .before .before .before .before .before .before .before .before .before .before .before .before .args .tables .now) start in
+    simp (c .has-invocation-clash .ensures T refl refl refl, c .before .is-always .ensures T refl, c .before .before .some-input-no-destination .ensures T refl refl refl, c .before .before .before .some-destination-no-input .ensures T refl refl refl, c .before .before .before .before .some-source-unreadable .ensures T refl refl refl refl, c .before .before .before .before .before .some-output-no-mode-port .ensures T refl refl refl, c .before .before .before .before .before .before .driver .ensures, c .before .before .before .before .before .before .before .task .ensures, c .before .before .before .before .before .before .before .before .mode .ensures) refl
 
 pub invocation-wrong-spec : {M : Type 1} → statement M
 invocation-wrong-spec =
     tie.close
     (tie.spec
+    element-copy-out-ports
+    element-copy-out-task-ports
+    element-copy-out-drivers
+    element-copy-out-copies
+    element-copy-out-mode-ports
+    element-copy-out-invocations
     mode-requires
     task-requires
     driver-requires

@@ -1,9 +1,25 @@
 -- `modes::switches::switch_wrong` meets its contract: each part of the rule is asked of the row. Assumes nothing.
 use mathlib.Core.Path.{refl}
-use Rattle.rules.specs.Modes.{switchWrong}
 use borrow.Author.Needs.{needs}
+use Rattle.program.specs.Tables.{tablesIn}
+use Rattle.rules.specs.Modes.{switchWrong}
 use Rattle.modes.proofs.switches.switch_wrong.Statement.{statement}
 use Rattle.modes.proofs.switches.switch_wrong.Tie as tie
+
+element-copy-out-ports : tie.Need-element-copy-out-ports
+element-copy-out-ports c = search needs
+
+element-copy-out-drivers : tie.Need-element-copy-out-drivers
+element-copy-out-drivers c = search needs
+
+element-copy-out-copies : tie.Need-element-copy-out-copies
+element-copy-out-copies c = search needs
+
+element-copy-out-mode-ports : tie.Need-element-copy-out-mode-ports
+element-copy-out-mode-ports c = search needs
+
+element-copy-out-switches : tie.Need-element-copy-out-switches
+element-copy-out-switches c = search needs
 
 mode-requires : tie.Need-mode-requires
 mode-requires c κs = search needs
@@ -28,12 +44,19 @@ has-switch-clash-requires c κs = search needs
 
 returns : tie.Need-returns
 unfolding switchWrong
-returns c T e1 e2 e3 e4 e5 = simp (c .has-switch-clash .ensures T e2 e5, c .before .some-port-no-destination .ensures T e3 e4, c .before .before .some-destination-no-mode-port .ensures T e3 e4, c .before .before .before .some-source-unreadable .ensures T e1 e2 e3 e4, c .before .before .before .before .driver .ensures, c .before .before .before .before .before .mode2 .ensures, c .before .before .before .before .before .before .mode .ensures, ← e5) refl
+returns c start =
+    let T = tablesIn (c .before .before .before .before .before .before .before .before .before .before .before .before .args .tables .now) start in
+    simp (c .has-switch-clash .ensures T refl refl, c .before .some-port-no-destination .ensures T refl refl, c .before .before .some-destination-no-mode-port .ensures T refl refl, c .before .before .before .some-source-unreadable .ensures T refl refl refl refl, c .before .before .before .before .driver .ensures, c .before .before .before .before .before .mode2 .ensures, c .before .before .before .before .before .before .mode .ensures) refl
 
 pub switch-wrong-spec : {M : Type 1} → statement M
 switch-wrong-spec =
     tie.close
     (tie.spec
+    element-copy-out-ports
+    element-copy-out-drivers
+    element-copy-out-copies
+    element-copy-out-mode-ports
+    element-copy-out-switches
     mode-requires
     mode-requires-2
     driver-requires

@@ -1,12 +1,25 @@
 -- `modes::units::units_wrong` meets its contract: the units, and the period that they divide. Assumes nothing.
 use mathlib.Core.Path.{refl}
-use Rattle.rules.specs.Timing.{unitsWrong}
 use borrow.Author.Needs.{needs}
+use Rattle.program.specs.Tables.{tablesIn}
+use Rattle.rules.specs.Timing.{unitsWrong}
 use Rattle.modes.proofs.units.units_wrong.Statement.{statement}
 use Rattle.modes.proofs.units.units_wrong.Tie as tie
 
+element-copy-out-invocations : tie.Need-element-copy-out-invocations
+element-copy-out-invocations c = search needs
+
+element-copy-out-updates : tie.Need-element-copy-out-updates
+element-copy-out-updates c = search needs
+
+element-copy-out-switches : tie.Need-element-copy-out-switches
+element-copy-out-switches c = search needs
+
 units-requires : tie.Need-units-requires
 units-requires c κs = search needs
+
+element-copy-out-field : tie.Need-element-copy-out-field
+element-copy-out-field c = search needs
 
 index-requires : tie.Need-index-requires
 index-requires c κs = search needs
@@ -19,8 +32,20 @@ misses-requires c κs = search needs
 
 returns : tie.Need-returns
 unfolding unitsWrong
-returns c T e f g h = simp (c .misses .ensures, c .before .field .ensures, c .before .before .index .ensures, c .before .before .before .units .ensures T f g h, e) refl
+returns c start =
+    let T = tablesIn (c .before .before .before .before .before .before .before .before .args .tables .now) start in
+    simp (c .misses .ensures, c .before .field .ensures, c .before .before .index .ensures, c .before .before .before .before .units .ensures T refl refl refl) refl
 
 pub units-wrong-spec : {M : Type 1} → statement M
 units-wrong-spec =
-    tie.close (tie.spec units-requires index-requires field-requires misses-requires returns)
+    tie.close
+    (tie.spec
+    element-copy-out-invocations
+    element-copy-out-updates
+    element-copy-out-switches
+    units-requires
+    element-copy-out-field
+    index-requires
+    field-requires
+    misses-requires
+    returns)

@@ -1,9 +1,25 @@
 -- `modes::updates::update_wrong` meets its contract: each part of the rule is asked of the row. Assumes nothing.
 use mathlib.Core.Path.{refl}
-use Rattle.rules.specs.Modes.{updateWrong}
 use borrow.Author.Needs.{needs}
+use Rattle.program.specs.Tables.{tablesIn}
+use Rattle.rules.specs.Modes.{updateWrong}
 use Rattle.modes.proofs.updates.update_wrong.Statement.{statement}
 use Rattle.modes.proofs.updates.update_wrong.Tie as tie
+
+element-copy-out-ports : tie.Need-element-copy-out-ports
+element-copy-out-ports c = search needs
+
+element-copy-out-drivers : tie.Need-element-copy-out-drivers
+element-copy-out-drivers c = search needs
+
+element-copy-out-copies : tie.Need-element-copy-out-copies
+element-copy-out-copies c = search needs
+
+element-copy-out-mode-ports : tie.Need-element-copy-out-mode-ports
+element-copy-out-mode-ports c = search needs
+
+element-copy-out-updates : tie.Need-element-copy-out-updates
+element-copy-out-updates c = search needs
 
 mode-requires : tie.Need-mode-requires
 mode-requires c κs = search needs
@@ -22,12 +38,19 @@ has-update-clash-requires c κs = search needs
 
 returns : tie.Need-returns
 unfolding updateWrong
-returns c T e1 e2 e3 e4 e5 = simp (c .has-update-clash .ensures T e3 e5, c .before .some-destination-no-actuator .ensures T e1 e3, c .before .before .some-source-no-mode-port .ensures T e2 e3 e4, c .before .before .before .driver .ensures, c .before .before .before .before .mode .ensures, ← e5) refl
+returns c start =
+    let T = tablesIn (c .before .before .before .before .before .before .before .before .before .before .args .tables .now) start in
+    simp (c .has-update-clash .ensures T refl refl, c .before .some-destination-no-actuator .ensures T refl refl, c .before .before .some-source-no-mode-port .ensures T refl refl refl, c .before .before .before .driver .ensures, c .before .before .before .before .mode .ensures) refl
 
 pub update-wrong-spec : {M : Type 1} → statement M
 update-wrong-spec =
     tie.close
     (tie.spec
+    element-copy-out-ports
+    element-copy-out-drivers
+    element-copy-out-copies
+    element-copy-out-mode-ports
+    element-copy-out-updates
     mode-requires
     driver-requires
     some-source-no-mode-port-requires

@@ -1,11 +1,12 @@
 -- `suppliers::parts::refused` meets its contract: the rows are held against the table that is filled. Assumes nothing.
-use mathlib.Core.Path.{_≡_, ap, _∙_}
-use mathlib.Core.List.{List}
 use Prim.Native.Nat.{ℕ}
-use Rattle.program.specs.Tables.{Tables}
+use mathlib.Core.Path.{_≡_, refl, ap, _∙_}
+use mathlib.Core.List.{List}
+use lib.IntN.{ℤ}
+use borrow.Author.Needs.{needs}
+use Rattle.program.specs.Tables.{tablesIn}
 use Rattle.suppliers.specs.Delays.{countedDelays, partBadBy}
 use Rattle.suppliers.proofs.Delays.{part-counted}
-use borrow.Author.Needs.{needs}
 use Rattle.suppliers.proofs.parts.refused.Statement.{statement}
 use Rattle.suppliers.proofs.parts.refused.Tie as tie
 
@@ -15,6 +16,9 @@ slice-aggregate-fill c = search needs
 fill-requires : tie.Need-fill-requires
 fill-requires c κs = search needs
 
+element-copy-out-part-bad : tie.Need-element-copy-out-part-bad
+element-copy-out-part-bad c = search needs
+
 slice-aggregate-part-bad : tie.Need-slice-aggregate-part-bad
 slice-aggregate-part-bad c = search needs
 
@@ -23,14 +27,15 @@ part-bad-requires c κs = search needs
 
 returns : tie.Need-returns
 returns c =
-    let s = c .before .before .before .before .before in
-    let counted : (T : Tables) → T .ports ≡ s .args .ports .now → T .tasks ≡ s .args .tasks .now → T .modes ≡ s .args .modes .now
-    → T .invocations ≡ s .args .invocations .now → T .updates ≡ s .args .updates .now → T .switches ≡ s .args .switches .now
-    → c .part-bad .result ≡ partBadBy T (countedDelays T) (s .args .rows .now) (s .args .supplier) =
-    λ T e f g h i j.
-    c .part-bad .ensures T f
-    ∙ ap (λ (t : List ℕ). partBadBy T t (s .args .rows .now) (s .args .supplier)) (c .before .before .before .fill .ensures .0 T e g h i j) in
-    (counted, λ T e f g h i j v l. counted T e f g h i j ∙ part-counted T v l (s .args .rows .now) (s .args .supplier))
+    let filled = c .before .before .before .before in
+    let s = filled .before .before in
+    let lent = s .args .tables .now in
+    let S = s .args .rows .now in
+    let counted : (start : ℤ) → let T = tablesIn lent start in c .part-bad .result ≡ partBadBy T (countedDelays T) S (s .args .supplier) =
+    λ start.
+    let T = tablesIn lent start in
+    c .part-bad .ensures T refl ∙ ap (λ (t : List ℕ). partBadBy T t S (s .args .supplier)) (filled .fill .ensures .0 start) in
+    (counted, λ start v l. counted start ∙ part-counted (tablesIn lent start) v l S (s .args .supplier))
 
 pub refused-spec : {M : Type 1} → statement M
 refused-spec =
@@ -38,6 +43,7 @@ refused-spec =
     (tie.spec
     slice-aggregate-fill
     fill-requires
+    element-copy-out-part-bad
     slice-aggregate-part-bad
     part-bad-requires
     returns)

@@ -1,16 +1,20 @@
--- `cases::tables::in_turn` is safe and ends: the buffer and the room keep their lengths. Assumes nothing.
+-- `cases::tables::program` is safe and ends: the buffers keep their lengths. Assumes nothing.
 use Prim.Native.Nat.{_-_}
 use mathlib.Core.Path.{_≡_}
 use lib.ListN.{length}
+use Rattle.cells.specs.Limits.{tableCount}
 use borrow.Author.Needs.{needs}
-use Rattle.cases.proofs.tables.in_turn.Statement.{statement}
-use Rattle.cases.proofs.tables.in_turn.Tie as tie
+use Rattle.cases.proofs.tables.program.Statement.{statement}
+use Rattle.cases.proofs.tables.program.Tie as tie
 
 abbrev Inv-loop : tie.InvT-loop
-Inv-loop buffer₀ room₀ reader₀ len₀ at₀ i₀ buffer room reader len at i = (length buffer ≡ length buffer₀) × (length room ≡ length room₀)
+Inv-loop buffer₀ room₀ start reader₀ len₀ at₀ i₀ buffer room reader len at i = (length buffer ≡ length buffer₀) × (length room ≡ length room₀) × (length len ≡ tableCount)
 
 abbrev μ-loop : tie.MeasureT-loop
-μ-loop buffer₀ room₀ reader₀ len₀ at₀ i₀ buffer room reader len at i = 10 - i
+μ-loop buffer₀ room₀ start reader₀ len₀ at₀ i₀ buffer room reader len at i = tableCount - i
+
+signed-requires : tie.Need-signed-requires Inv-loop μ-loop
+signed-requires c κs = search needs
 
 loop-holds : tie.Need-loop-holds Inv-loop μ-loop
 loop-holds c = search needs
@@ -48,12 +52,13 @@ same-length-2 c = search needs
 returns : tie.Need-returns Inv-loop μ-loop
 returns c = search needs
 
-pub in-turn-spec : {M : Type 1} → statement M
-in-turn-spec =
+pub program-spec : {M : Type 1} → statement M
+program-spec =
     tie.close
     (tie.spec
     Inv-loop
     μ-loop
+    signed-requires
     loop-holds
     mul-next
     array-read-next

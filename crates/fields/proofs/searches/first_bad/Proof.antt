@@ -1,0 +1,65 @@
+-- `fields::searches::first_bad` meets its contract: the rows that the loop has passed are not bad. Assumes nothing.
+use Prim.Native.Nat.{_-_}
+use mathlib.Core.Path.{_≡_, sym, ap, _∙_}
+use lib.IntN.{ℤ}
+use borrow.Author.Needs.{needs}
+use Rattle.theory.specs.Search.{first}
+use Rattle.theory.proofs.Search.{Passed, passed-none, passed-more, first-found, first-none}
+use Rattle.program.specs.Tables.{tablesIn}
+use Rattle.fields.specs.Rows.{rowBad}
+use Rattle.fields.proofs.searches.first_bad.Statement.{statement}
+use Rattle.fields.proofs.searches.first_bad.Tie as tie
+
+abbrev Inv-loop : tie.InvT-loop
+Inv-loop tables place n row₀ row = (start : ℤ) → Passed (rowBad (tablesIn tables start) place) n row
+
+abbrev μ-loop : tie.MeasureT-loop
+μ-loop tables place n row₀ row = n - row
+
+count-requires : tie.Need-count-requires Inv-loop μ-loop
+count-requires c κs = search needs
+
+loop-holds : tie.Need-loop-holds Inv-loop μ-loop
+loop-holds c start = passed-none _ _
+
+row-bad-requires : tie.Need-row-bad-requires Inv-loop μ-loop
+row-bad-requires c κs = search needs
+
+returns : tie.Need-returns Inv-loop μ-loop
+returns c start =
+    first-found _ _ _
+    (c .before .before .before .loop .inv start) (c .before .before .loop-test .taken)
+    (sym (c .before .row-bad .ensures start) ∙ c .if1 .taken)
+    ∙ ap (first _) (c .before .before .before .before .count .ensures start)
+
+add-row : tie.Need-add-row Inv-loop μ-loop
+add-row c = search needs
+
+loop-less : tie.Need-loop-less Inv-loop μ-loop
+loop-less c = search needs
+
+loop-again : tie.Need-loop-again Inv-loop μ-loop
+loop-again c start =
+    passed-more _ _ _
+    (c .before .before .before .loop .inv start) (c .before .before .loop-test .taken)
+    (sym (c .before .row-bad .ensures start) ∙ c .if1 .left)
+
+returns-2 : tie.Need-returns-2 Inv-loop μ-loop
+returns-2 c start =
+    first-none _ _ _ (c .before .loop .inv start) (c .loop-test .left)
+    ∙ ap (first _) (c .before .before .count .ensures start)
+
+pub first-bad-spec : {M : Type 1} → statement M
+first-bad-spec =
+    tie.close
+    (tie.spec
+    Inv-loop
+    μ-loop
+    count-requires
+    loop-holds
+    row-bad-requires
+    returns
+    add-row
+    loop-less
+    loop-again
+    returns-2)

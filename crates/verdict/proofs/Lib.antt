@@ -1,0 +1,2 @@
+-- What the verdict's loop asks, one number after the other.
+pub mod Asked

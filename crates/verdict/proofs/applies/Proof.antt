@@ -1,0 +1,210 @@
+-- `verdict::applies` meets its contract: each number has the test of its refusal. Assumes nothing.
+use Prim.Native.Nat.{ℕ, zero, suc, _≤_, _<_}
+use mathlib.Core.Path.{_≡_, refl, sym, ap, _∙_}
+use mathlib.Core.Bool.{Bool, false, _||_}
+use lib.Dec.{ltb}
+use lib.IntN.{ℤ}
+use native.Mathlib.Omega.{arith}
+use borrow.Author.Needs.{needs}
+use Rattle.theory.specs.Search.{any, first}
+use Rattle.cells.specs.Cell.{nameOf}
+use Rattle.cells.specs.Limits.{maxModes}
+use Rattle.cells.proofs.Names.{name-small}
+use Rattle.program.specs.Tables.{Tables, tablesIn, modeWidth, modeCount}
+use Rattle.rules.specs.Shape.{shapeBad}
+use Rattle.rules.specs.Declared.{taskPortsBad, copiesBad, modePortsBad}
+use Rattle.rules.specs.Modes.{invocationsBad, updatesBad, switchesBad}
+use Rattle.rules.specs.Timing.{unitsWrong, unitsBad, wholeBad}
+use Rattle.rules.specs.Verdict.{tableRefusals}
+use Rattle.rules.proofs.Shape.{whole-few, shape-bars}
+use Rattle.fields.proofs.Rows.{search-says}
+use Rattle.verdict.specs.Asked.{appliesBy}
+use Rattle.verdict.proofs.Asked.{applies-as, applies-other}
+use Rattle.verdict.proofs.applies.Statement.{statement}
+use Rattle.verdict.proofs.applies.Tie as tie
+
+element-copy-out-ports : tie.Need-element-copy-out-ports
+element-copy-out-ports c = search needs
+
+element-copy-out-task-ports : tie.Need-element-copy-out-task-ports
+element-copy-out-task-ports c = search needs
+
+element-copy-out-copies : tie.Need-element-copy-out-copies
+element-copy-out-copies c = search needs
+
+element-copy-out-mode-ports : tie.Need-element-copy-out-mode-ports
+element-copy-out-mode-ports c = search needs
+
+element-copy-out-invocations : tie.Need-element-copy-out-invocations
+element-copy-out-invocations c = search needs
+
+element-copy-out-switches : tie.Need-element-copy-out-switches
+element-copy-out-switches c = search needs
+
+fields-bad-requires : tie.Need-fields-bad-requires
+fields-bad-requires c κs = search needs
+
+first-task-port-clash-requires : tie.Need-first-task-port-clash-requires
+first-task-port-clash-requires c κs = search needs
+
+count-requires : tie.Need-count-requires
+count-requires c κs = search needs
+
+first-copy-clash-requires : tie.Need-first-copy-clash-requires
+first-copy-clash-requires c κs = search needs
+
+count-requires-2 : tie.Need-count-requires-2
+count-requires-2 c κs = search needs
+
+first-mode-port-clash-requires : tie.Need-first-mode-port-clash-requires
+first-mode-port-clash-requires c κs = search needs
+
+count-requires-3 : tie.Need-count-requires-3
+count-requires-3 c κs = search needs
+
+first-wrong-invocation-requires : tie.Need-first-wrong-invocation-requires
+first-wrong-invocation-requires c κs = search needs
+
+count-requires-4 : tie.Need-count-requires-4
+count-requires-4 c κs = search needs
+
+first-wrong-update-requires : tie.Need-first-wrong-update-requires
+first-wrong-update-requires c κs = search needs
+
+count-requires-5 : tie.Need-count-requires-5
+count-requires-5 c κs = search needs
+
+first-wrong-switch-requires : tie.Need-first-wrong-switch-requires
+first-wrong-switch-requires c κs = search needs
+
+count-requires-6 : tie.Need-count-requires-6
+count-requires-6 c κs = search needs
+
+first-wrong-units-requires : tie.Need-first-wrong-units-requires
+first-wrong-units-requires c κs = search needs
+
+count-requires-7 : tie.Need-count-requires-7
+count-requires-7 c κs = search needs
+
+first-not-whole-requires : tie.Need-first-not-whole-requires
+first-not-whole-requires c κs = search needs
+
+count-requires-8 : tie.Need-count-requires-8
+count-requires-8 c κs = search needs
+
+-- what was lent: the tables of their shape, and the program with its start mode
+abbrev start : tie.After-switches → tie.Start
+start c = c .before .before .before .before .before .before
+
+abbrev lent : tie.After-switches → Tables
+lent c = tablesIn (start c .args .tables .now) (start c .args .program .start)
+
+-- whether a search of a table's rows found one, where that is what the number asks
+found : (c : tie.After-switches) {k : ℕ} → start c .args .number ≡ k → (p : ℕ → Bool) {n m r : ℕ} → r ≡ first p n
+    → (ℤ → m ≡ n) → any p n ≡ appliesBy tableRefusals k (lent c) → ltb r m ≡ appliesBy tableRefusals (start c .args .number) (lent c)
+found c e p f g h = applies-as tableRefusals (lent c) e (search-says p f (g (lent c .start)) ∙ h)
+
+-- tests that agree on every row agree on some row
+any-alike : (p q : ℕ → Bool) (n : ℕ) → ((k : ℕ) → k < n → p k ≡ q k) → any p n ≡ any q n
+unfolding any
+any-alike p q zero h = refl
+any-alike p q (suc n) h = λ i. any-alike p q n (λ k l. h k (omega arith)) i || h n (omega arith) i
+
+-- tables of their shape have few modes: each is the one that its row names
+named : (T : Tables) → shapeBad T ≡ false → any (λ m. unitsWrong T (nameOf m)) (modeCount T) ≡ any (unitsWrong T) (modeCount T)
+named T e =
+    let few : modeCount T ≤ maxModes = whole-few modeWidth maxModes (T .modes) (shape-bars T .ok e .modes) in
+    any-alike (λ m. unitsWrong T (nameOf m)) (unitsWrong T) (modeCount T) (λ m l. ap (unitsWrong T) (name-small m (omega arith)))
+
+returns : tie.Need-returns
+returns c = applies-as tableRefusals _ (c .before .match .keys1) (c .fields-bad .ensures)
+
+returns-2 : tie.Need-returns-2
+unfolding taskPortsBad
+returns-2 c =
+    let l = c .before .before .before in
+    found l (c .before .before .match .keys2) _ (c .before .first-task-port-clash .ensures (lent l) refl refl) (c .count .ensures) refl
+
+returns-3 : tie.Need-returns-3
+unfolding copiesBad
+returns-3 c =
+    let l = c .before .before .before in
+    found l (c .before .before .match .keys3) _ (c .before .first-copy-clash .ensures (lent l) refl) (c .count2 .ensures) refl
+
+returns-4 : tie.Need-returns-4
+unfolding modePortsBad
+returns-4 c =
+    let l = c .before .before .before in
+    found l (c .before .before .match .keys4) _ (c .before .first-mode-port-clash .ensures (lent l) refl refl) (c .count3 .ensures) refl
+
+returns-5 : tie.Need-returns-5
+unfolding invocationsBad
+returns-5 c =
+    let l = c .before .before .before in
+    found l (c .before .before .match .keys5) _ (c .before .first-wrong-invocation .ensures _) (c .count4 .ensures) refl
+
+returns-6 : tie.Need-returns-6
+unfolding updatesBad
+returns-6 c =
+    let l = c .before .before .before in
+    found l (c .before .before .match .keys6) _ (c .before .first-wrong-update .ensures _) (c .count5 .ensures) refl
+
+returns-7 : tie.Need-returns-7
+unfolding switchesBad
+returns-7 c =
+    let l = c .before .before .before in
+    found l (c .before .before .match .keys7) _ (c .before .first-wrong-switch .ensures _) (c .count6 .ensures) refl
+
+returns-8 : tie.Need-returns-8
+unfolding unitsBad
+returns-8 c =
+    let l = c .before .before .before in
+    let shaped = start l .pre (lent l .start) in
+    found l (c .before .before .match .keys8) _ (c .before .first-wrong-units .ensures _) (c .count7 .ensures) (named (lent l) shaped)
+
+returns-9 : tie.Need-returns-9
+unfolding wholeBad
+returns-9 c =
+    let l = c .before .before .before in
+    found l (c .before .before .match .keys9) _ (c .before .first-not-whole .ensures (lent l) refl refl) (c .count8 .ensures) refl
+
+returns-10 : tie.Need-returns-10
+returns-10 c = sym (applies-other (Unit {0}) tableRefusals (lent (c .before)) (start (c .before) .args .number) (c .match .rest) .1)
+
+pub applies-spec : {M : Type 1} → statement M
+applies-spec =
+    tie.close
+    (tie.spec
+    element-copy-out-ports
+    element-copy-out-task-ports
+    element-copy-out-copies
+    element-copy-out-mode-ports
+    element-copy-out-invocations
+    element-copy-out-switches
+    fields-bad-requires
+    first-task-port-clash-requires
+    count-requires
+    first-copy-clash-requires
+    count-requires-2
+    first-mode-port-clash-requires
+    count-requires-3
+    first-wrong-invocation-requires
+    count-requires-4
+    first-wrong-update-requires
+    count-requires-5
+    first-wrong-switch-requires
+    count-requires-6
+    first-wrong-units-requires
+    count-requires-7
+    first-not-whole-requires
+    count-requires-8
+    returns
+    returns-2
+    returns-3
+    returns-4
+    returns-5
+    returns-6
+    returns-7
+    returns-8
+    returns-9
+    returns-10)

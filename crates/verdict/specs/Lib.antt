@@ -1,0 +1,2 @@
+-- A refusal of a list by its number.
+pub mod Asked
