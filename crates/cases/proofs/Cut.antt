@@ -28,7 +28,8 @@ module _ {A : Type 0} (width limit : ℕ) (some : 1 ≤ width) where
       → (badSlice width limit (take cap t) ≡ true) × (badSlice width limit t ≡ true)
   cut-too-long cap t h l = (too-long (take cap t) (simp length-take (omega arith)), too-long t (omega arith))
 
--- a slice by port or by task that does not have just so many numbers is number 1, and so is what a buffer of one more, or larger, keeps of it
+-- a slice by port or by task that does not have just so many numbers is number 1, and so is what a buffer of one more, or larger, keeps
+-- of it
 pub cut-wrong-length : {A : Type 0} (n cap : ℕ) (t : List A) → n < cap → cap < length t → (badLength n (take cap t) ≡ true) × (badLength n t ≡ true)
 unfolding badLength
 cut-wrong-length n cap t h l =

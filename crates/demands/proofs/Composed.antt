@@ -1,5 +1,5 @@
--- The composed run is Giotto's: the relation holds in the fresh state, every fair tick is accepted and keeps it, and it has the ports equal.
--- Assumes nothing: the statement's premises are that the system is accepted and that the ticks are fair.
+-- The composed run is Giotto's: the relation holds in the fresh state, every fair tick is accepted and keeps it, and it has the ports
+-- equal. Assumes nothing: the statement's premises are that the system is accepted and that the ticks are fair.
 use Prim.Native.Nat.{ℕ, zero, suc, _≤_, _<_}
 use mathlib.Core.Path.{_≡_, refl, sym, ap, subst, _∙_}
 use mathlib.Core.List.{List}

@@ -1,17 +1,21 @@
--- The tests of the rows by the place of their table, and number 2 as a search of the places. Assumes nothing.
+-- The tests of slices and rows by the place of their table: numbers 1 and 2 as searches of the places. Assumes nothing.
 use Prim.Native.Nat.{ℕ, zero, suc, _≤_}
 use mathlib.Core.Path.{_≡_, refl, sym, ap, _∙_}
-use mathlib.Core.Bool.{Bool, true, false, _||_}
+use mathlib.Core.Bool.{Bool, false, _||_}
+use mathlib.Core.List.{List, [], _∷_}
 use mathlib.Core.Logic.{⊎-elim}
 use native.Mathlib.Nat.{eq-or-lt-of-le}
 use native.Mathlib.Omega.{arith}
-use lib.Dec.{ltb}
+use lib.Dec.{eqb}
+use lib.IntN.{ℤ}
 use lib.ListN.{getD, List·getD-eq-default}
-use borrow.Author.Tests.{ltb-true, ltb-false}
-use Rattle.theory.specs.Search.{any, first}
-use Rattle.theory.proofs.Search.{hit, miss}
-use Rattle.cells.specs.Limits.{tableCount}
-use Rattle.program.specs.Tables.{Tables, rowsAt}
+use denote.Ref.{RefT}
+use Rattle.theory.specs.Search.{any}
+use Rattle.cells.specs.Limits.{tableCount, maxPorts, maxTasks, maxTaskPorts, maxDrivers, maxCopies, maxModes}
+use Rattle.cells.specs.Limits.{maxModePorts, maxInvocations, maxUpdates, maxSwitches}
+use Rattle.program.specs.Tables.{Tables, tableAt, tablesIn, rowsAt, modeCount}
+use Rattle.program.proofs.Places.{widths}
+use Rattle.rules.specs.Shape.{badSlice, shapeBad}
 use Rattle.rules.specs.Fields.{startBad, fieldsBad}
 use Rattle.fields.specs.Rows.{rowTests, rowBad}
 
@@ -35,6 +39,31 @@ pub none-below : (n k : ℕ) → NoneBelow n k → n ≤ k
 none-below zero k h = omega arith
 none-below (suc n) k h = ⊎-elim (λ e. absurd (h .1 (sym e))) (λ l. l) (eq-or-lt-of-le (none-below n k (h .0)))
 
+-- the most rows of each table, in the order of the tables
+abbrev limits : List ℕ
+limits =
+    maxPorts
+    ∷ maxTasks
+    ∷ maxTaskPorts
+    ∷ maxDrivers
+    ∷ maxCopies
+    ∷ maxModes
+    ∷ maxModePorts
+    ∷ maxInvocations
+    ∷ maxUpdates
+    ∷ maxSwitches
+    ∷ []
+
+-- the table at a place does not have its shape
+abbrev pub sliceBad : List (RefT (List ℤ)) → ℕ → Bool
+sliceBad lent place = badSlice (getD widths place 0) (getD limits place 0) (tableAt lent place)
+
+-- number 1: of some place, or no mode
+pub shape-by-place : (lent : List (RefT (List ℤ))) (start : ℤ)
+    → (any (sliceBad lent) tableCount || eqb (modeCount (tablesIn lent start)) 0) ≡ shapeBad (tablesIn lent start)
+unfolding any shapeBad
+shape-by-place lent start = refl
+
 -- some row of the table at a place is bad
 abbrev pub tableBad : Tables → ℕ → Bool
 tableBad T place = any (rowBad T place) (rowsAt T place)
@@ -43,11 +72,3 @@ tableBad T place = any (rowBad T place) (rowsAt T place)
 pub fields-by-place : (T : Tables) → (any (tableBad T) tableCount || startBad T) ≡ fieldsBad T
 unfolding any rowBad fieldsBad
 fields-by-place T = refl
-
--- whether a search ended before the last row says whether some row has it
-pub search-says : (p : ℕ → Bool) {n m r : ℕ} → r ≡ first p n → m ≡ n → ltb r m ≡ any p n
-search-says p {n} {m} {r} e f = ap (ltb r) f ∙ go (ltb r n) refl
-  where
-    go : (b : Bool) → ltb r n ≡ b → b ≡ any p n
-    go true q = sym (hit p n r e (ltb-true r n q))
-    go false q = sym (miss p n r e (ltb-false r n q))

@@ -21,9 +21,9 @@ use cells::refusals;
 use cells::tables;
 use machine::Advanced;
 use machine::State;
-use machine::values;
 use program::members;
 use runs::turn;
+use ticking::values;
 
 // Where the range of drivers begins, and where the first two ranges end.
 const DRIVER_CALL: usize = 0;

@@ -1,7 +1,6 @@
--- The local outputs after a tick of a task: where it completes, and where it does not.
--- Assumes, of the rows of its task ports, that it is declared.
-use Prim.Native.Nat.{ℕ, _<_}
-use mathlib.Core.Path.{_≡_, refl, sym, ap}
+-- The local outputs after a tick of a task: where it completes, and where it does not. Assumes nothing.
+use Prim.Native.Nat.{ℕ}
+use mathlib.Core.Path.{_≡_, refl}
 use mathlib.Core.Bool.{Bool, true, false}
 use mathlib.Core.List.{List}
 use lib.Dec.{eqb}
@@ -10,14 +9,11 @@ use lib.ListN.{length}
 use borrow.Author.Tests.{eq-eqb, ne-eqb}
 use Rattle.theory.specs.Lists.{puts}
 use Rattle.theory.proofs.Puts.{puts-length}
-use Rattle.program.specs.Tables.{Tables, taskCount}
-use Rattle.program.specs.Program.{Program, Task, programOf, task}
+use Rattle.program.specs.Program.{Program, task}
 use Rattle.program.specs.Ports.{valueOf, takes}
-use Rattle.program.proofs.Decoded.{task-row}
 use Rattle.runs.specs.Tick.{leftOf}
 use Rattle.machine.specs.declared.State.{State}
 use Rattle.machine.specs.Schedules.{outputsAt, outputsAfter}
-use Rattle.machine.specs.Joined.{outputsBy}
 
 -- in its last tick a task completes, and its results are put into its local outputs
 pub outputs-done : (P : Program) (results : List ℤ) (s : State) (t : ℕ) → leftOf (s .left) t ≡ 1
@@ -36,9 +32,3 @@ outputs-length P results s t = go (eqb (leftOf (s .left) t) 1)
         ≡ length (s .outputs)
     go true = puts-length (takes (valueOf results) (task P t .outputs)) (s .outputs)
     go false = refl
-
--- the outputs of a declared task are those of its rows
-pub outputs-declared : (T : Tables) (results : List ℤ) (s : State) (t : ℕ) → t < taskCount T
-    → outputsBy T results s t ≡ outputsAfter (programOf T) results s t
-outputs-declared T results s t l =
-    ap (λ (k : Task). outputsAt (k .outputs) results s t) (sym (task-row T t l))

@@ -1,5 +1,4 @@
--- Laws of the machine: each number of execution under exactly its condition, what an advance leaves as it was, and what the code's
--- functions come to.
+-- Laws of the machine: each number of execution under exactly its condition, and what an advance leaves as it was.
 pub mod Outcomes
 pub mod Collide
 pub mod Instructions
@@ -16,9 +15,4 @@ pub mod Kept
 pub mod Moved
 pub mod Uses
 pub mod Exact
-pub mod Rowwise
-pub mod Assigned
 pub mod Declared
-pub mod Joining
-pub mod Walking
-pub mod Ticking

@@ -1,5 +1,5 @@
--- The step of an advance is refused exactly as specs/Comes.antt says: in its instant with 19, 16, 17 or 20, or in its tick with 18; else the
--- tick passes. Assumes nothing.
+-- The step of an advance is refused exactly as specs/Comes.antt says: in its instant with 19, 16, 17 or 20, or in its tick with 18;
+-- else the tick passes. Assumes nothing.
 use Prim.Native.Nat.{ℕ, _≤_, _<_}
 use mathlib.Core.Path.{_≡_, refl, sym, ap, _∙_}
 use mathlib.Core.List.{List}

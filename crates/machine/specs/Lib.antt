@@ -1,10 +1,8 @@
 -- The machine: one instruction, one instant, one tick of the schedules, a fresh state, an advance.
-pub mod Values
 pub mod Change
 pub mod Instruction
 pub mod Instant
 pub mod Schedules
-pub mod Joined
 pub mod Advance
 pub mod Fresh
 pub mod Comes

@@ -15,8 +15,8 @@ use Rattle.program.specs.Ports.{valueOf, takes}
 use Rattle.runs.specs.Tick.{leftOf, Act, rest, run, after, Place, moved, doing, runsIn}
 use Rattle.runs.specs.Schedule.{blockOf}
 use Rattle.machine.specs.declared.State.{State}
-use Rattle.machine.specs.declared.schedules.Running.{Running}
-use Rattle.machine.specs.declared.schedules.Shares.{Shares}
+use Rattle.machine.specs.declared.Running.{Running}
+use Rattle.machine.specs.declared.Shares.{Shares}
 use Rattle.machine.specs.Instant.{Outcome, ok, stop}
 
 -- who runs in a tick

@@ -1,9 +1,6 @@
-// The composed machine: its state, what becomes of port values, one tick of all schedules.
+// The composed machine: its state, and what an instant, a tick and an advance hand on. What they come to is in specs/.
+use cells::kinds::Task;
 use cells::limits::Program;
-
-pub mod range;
-pub mod schedules;
-pub mod values;
 
 // Port values, local outputs, time stamp, pending address, current `future` address, elapsed and remaining ticks of the
 // unit, remaining time per task, position per supplier (rows of its block passed).
@@ -30,4 +27,16 @@ pub struct At {
     pub address: usize,
     pub planned: bool,
     pub state: State,
+}
+
+// How many suppliers run in a tick, two standing for more, and the task if one does.
+pub struct Running {
+    pub count: usize,
+    pub job: Task,
+}
+
+// What a tick of all suppliers comes to: who runs, and the new positions.
+pub struct Shares {
+    pub running: Running,
+    pub positions: [usize; Program::SUPPLIERS],
 }

@@ -12,8 +12,8 @@ use cells::limits::Program;
 use cells::refusals;
 use fields::slices;
 use machine::State;
-use machine::range;
 use suppliers::joined;
+use ticking::range;
 
 // The E code is not whole instructions, or more of them than the limit.
 fn bad_code(code: &[u32]) -> bool

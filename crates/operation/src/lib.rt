@@ -16,8 +16,8 @@ use cells::refusals;
 use cells::tables;
 use machine::Advanced;
 use machine::State;
-use machine::schedules;
-use machine::values;
+use ticking::schedules;
+use ticking::values;
 
 mod judged;
 

@@ -1,4 +1,4 @@
--- The tables by their place: how many rows each has, and what is past the last. Assumes nothing.
+-- The tables by their place: which stands where, how many rows each has, and what is past the last. Assumes nothing.
 use Prim.Native.Nat.{ℕ, zero, suc, _/_, _≤_, _<_}
 use mathlib.Core.Path.{_≡_, refl}
 use mathlib.Core.List.{List, [], _∷_}
@@ -54,3 +54,23 @@ width-some place l = some-width widths (search arith) place l
 -- past the last table there are none
 pub rows-past : (lent : List (RefT (List ℤ))) (start : ℤ) (place : ℕ) → tableCount ≤ place → rowsAt (tablesIn lent start) place ≡ 0
 rows-past lent start place h = List·getD-eq-default (counts widths (tableAt lent)) 0 h
+
+-- ten lent tables stand in 01's order: ports, tasks, task ports, drivers, copies, modes, mode ports, invocations, updates, switches
+pub in-order : (ports tasks task-ports drivers copies modes mode-ports invocations updates switches : RefT (List ℤ)) (start : ℤ)
+    → tablesIn
+    (ports ∷ tasks ∷ task-ports ∷ drivers ∷ copies ∷ modes ∷ mode-ports ∷ invocations ∷ updates ∷ switches ∷ [])
+    start
+    ≡ record {
+      ports = ports .now;
+      tasks = tasks .now;
+      taskPorts = task-ports .now;
+      drivers = drivers .now;
+      copies = copies .now;
+      modes = modes .now;
+      modePorts = mode-ports .now;
+      invocations = invocations .now;
+      updates = updates .now;
+      switches = switches .now;
+      start = start;
+    }
+in-order ports tasks task-ports drivers copies modes mode-ports invocations updates switches start = refl

@@ -1,5 +1,5 @@
--- The dispatches of a supplier's block: what holds of the task of each of the supplier's dispatch rows holds of them, so they are of its own
--- tasks, and of declared ones. Assumes that the schedule's rows fit.
+-- The dispatches of a supplier's block: what holds of the task of each of the supplier's dispatch rows holds of them, so they are of
+-- its own tasks, and of declared ones. Assumes that the schedule's rows fit.
 use Prim.Native.Nat.{ℕ, _<_}
 use mathlib.Core.Path.{_≡_, sym, ap, _∙_}
 use mathlib.Core.Bool.{_&&_}

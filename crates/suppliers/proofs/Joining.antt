@@ -1,5 +1,5 @@
--- Parts of all suppliers joined, one after the other: each supplier's blocks are those of its part, the rows fit and are sorted, no supplier
--- has more rows than the limit. Assumes that each part passes number 13 and has its shape.
+-- Parts of all suppliers joined, one after the other: each supplier's blocks are those of its part, the rows fit and are sorted, no
+-- supplier has more rows than the limit. Assumes that each part passes number 13 and has its shape.
 use Prim.Native.Nat.{ℕ, zero, suc, _+_, _*_, _≤_, _<_}
 use mathlib.Core.Path.{_≡_, refl, sym, ap, ap₂, _∙_}
 use mathlib.Core.Bool.{Bool, true, _&&_}

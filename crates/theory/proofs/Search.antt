@@ -7,6 +7,8 @@ use mathlib.Core.Logic.{⊎-elim}
 use native.Mathlib.Nat.{le-of-suc-le-suc, not-suc-le-zero, eq-or-lt-of-le, le-antisymm}
 use native.Mathlib.Numerals.{add-one}
 use native.Mathlib.Omega.{arith}
+use lib.Dec.{ltb}
+use borrow.Author.Tests.{ltb-true, ltb-false}
 use Rattle.theory.specs.Search.{any, firstFrom, first}
 use Rattle.theory.specs.Claim.{Says, Bars}
 use Rattle.theory.proofs.Bools.{clash, neither, bars-and, bars-as}
@@ -156,6 +158,14 @@ module _ (p : ℕ → Bool) where
   -- at the count: none has
   pub miss : (n r : ℕ) → r ≡ first p n → n ≤ r → any p n ≡ false
   miss n r e l = first-end n (omega arith)
+
+  -- so the test whether a search ended before the last row says whether some row has it
+  pub search-says : {n m r : ℕ} → r ≡ first p n → m ≡ n → ltb r m ≡ any p n
+  search-says {n} {m} {r} e f = ap (ltb r) f ∙ go (ltb r n) refl
+    where
+      go : (b : Bool) → ltb r n ≡ b → b ≡ any p n
+      go true q = sym (hit n r e (ltb-true r n q))
+      go false q = sym (miss n r e (ltb-false r n q))
 
   -- where a test of each row says a claim, the test of some row says that it holds of one
   pub any-says : (P : ℕ → Type 0) → ((k : ℕ) → Says (p k) (P k)) → (n : ℕ) → Says (any p n) ((k : ℕ) × (k < n) × P k)

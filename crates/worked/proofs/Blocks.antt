@@ -1,5 +1,5 @@
--- What runs tick by tick, in numbers: an idle row, a timeout inside the unit, a dispatch that is cut off and gone on with in the next block, rows
--- passed together; and the same at the answer of a supplier's verdict. Assumes nothing.
+-- What runs tick by tick, in numbers: an idle row, a timeout inside the unit, a dispatch that is cut off and gone on with in the next
+-- block, rows passed together; and the same at the answer of a supplier's verdict. Assumes nothing.
 use mathlib.Core.Path.{_≡_, refl}
 use mathlib.Core.List.{[], _∷_}
 use Rattle.runs.specs.Tick.{rest, run}
@@ -21,8 +21,8 @@ gone-on :
     ≡ run 0 ∷ run 0 ∷ run 0 ∷ rest ∷ rest ∷ rest ∷ []
 gone-on = refl
 
--- two rows passed at one tick's start: jobs 0 and 1 are not running, so job 2 runs in the first tick; at tick 2 the timeouts of a dispatch and
--- of an idle are reached together
+-- two rows passed at one tick's start: jobs 0 and 1 are not running, so job 2 runs in the first tick; at tick 2 the timeouts of a
+-- dispatch and of an idle are reached together
 two-rows-passed :
     acts (dispatchTo 0 5 ∷ dispatchTo 1 5 ∷ dispatchTo 2 5 ∷ []) 3 0 (from (0 ∷ 0 ∷ 2 ∷ []))
     ≡ run 2 ∷ run 2 ∷ rest ∷ []
@@ -33,8 +33,8 @@ two-timeouts :
     ≡ run 0 ∷ run 0 ∷ run 1 ∷ run 1 ∷ []
 two-timeouts = refl
 
--- a timeout is counted from the block's start and not from the dispatch, the third of 01's errors: the second dispatch, begun at tick 2 with the
--- timeout 4, runs for two ticks and not for four; behind an idle to 2 a dispatch to 3 runs for one and not for three
+-- a timeout is counted from the block's start and not from the dispatch, the third of 01's errors: the second dispatch, begun at tick 2
+-- with the timeout 4, runs for two ticks and not for four; behind an idle to 2 a dispatch to 3 runs for one and not for three
 from-the-start :
     acts (dispatchTo 0 2 ∷ dispatchTo 1 4 ∷ []) 6 0 (from (9 ∷ 9 ∷ []))
     ≡ run 0 ∷ run 0 ∷ run 1 ∷ run 1 ∷ rest ∷ rest ∷ []

@@ -7,6 +7,7 @@ use lib.IntN.{ℤ}
 use native.Mathlib.Omega.{arith}
 use borrow.Author.Needs.{needs}
 use Rattle.theory.specs.Search.{any, first}
+use Rattle.theory.proofs.Search.{search-says}
 use Rattle.cells.specs.Cell.{nameOf}
 use Rattle.cells.specs.Limits.{maxModes}
 use Rattle.cells.proofs.Names.{name-small}
@@ -17,7 +18,6 @@ use Rattle.rules.specs.Modes.{invocationsBad, updatesBad, switchesBad}
 use Rattle.rules.specs.Timing.{unitsWrong, unitsBad, wholeBad}
 use Rattle.rules.specs.Verdict.{tableRefusals}
 use Rattle.rules.proofs.Shape.{whole-few, shape-bars}
-use Rattle.fields.proofs.Rows.{search-says}
 use Rattle.verdict.specs.Asked.{appliesBy}
 use Rattle.verdict.proofs.Asked.{applies-as, applies-other}
 use Rattle.verdict.proofs.applies.Statement.{statement}

@@ -1,4 +1,5 @@
--- `compiler::accepted::listed` meets its contract: number 11 is told by the layout's length, and what is written is the listing. Assumes nothing.
+-- `compiler::accepted::listed` meets its contract: number 11 is told by the layout's length, and what is written is the listing.
+-- Assumes nothing.
 use mathlib.Core.Path.{sym, ap, _∙_}
 use native.Mathlib.Omega.{arith}
 use lib.IntN.{ℤ, pos}

@@ -1,4 +1,5 @@
--- `declared::task_ports::task_port_clash` meets its contract: the searches of the rows before it, and the kind of its port. Assumes nothing.
+-- `declared::task_ports::task_port_clash` meets its contract: the searches of the rows before it, and the kind of its port. Assumes
+-- nothing.
 use mathlib.Core.Path.{refl}
 use Rattle.rules.specs.Declared.{taskPortClash}
 use borrow.Author.Needs.{needs}

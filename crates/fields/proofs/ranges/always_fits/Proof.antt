@@ -1,4 +1,5 @@
--- `fields::ranges::always_fits` meets its contract: each field read is the definition's column, and `same` read low and high from their bits. Assumes nothing.
+-- `fields::ranges::always_fits` meets its contract: each field read is the definition's column, and `same` read low and high from their
+-- bits. Assumes nothing.
 use mathlib.Core.Path.{_≡_, ap, _∙_}
 use lib.IntN.{ℤ, pos}
 use Rattle.cells.specs.Cell.{eqZ}

@@ -1,4 +1,5 @@
--- `fields::ranges::interval_fits` meets its contract: each field read is the definition's column, and low and high came back through their bits. Assumes nothing.
+-- `fields::ranges::interval_fits` meets its contract: each field read is the definition's column, and low and high came back through
+-- their bits. Assumes nothing.
 use mathlib.Core.Path.{_≡_, sym, ap, _∙_}
 use lib.Signed.{leZ}
 use mir.Syntax.{w32}

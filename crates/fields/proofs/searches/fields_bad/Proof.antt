@@ -5,11 +5,11 @@ use mathlib.Core.Bool.{Bool, _||_}
 use lib.Dec.{ltb}
 use borrow.Author.Needs.{needs}
 use borrow.Author.Tests.{lt-ltb, le-ltb}
-use Rattle.theory.proofs.Search.{Passed, passed-none, passed-more, passed-all, any-at}
+use Rattle.theory.proofs.Search.{Passed, passed-none, passed-more, passed-all, any-at, search-says}
 use Rattle.cells.specs.Limits.{tableCount}
 use Rattle.program.specs.Tables.{Tables, tablesIn}
 use Rattle.rules.specs.Fields.{startBad}
-use Rattle.fields.proofs.Rows.{tableBad, fields-by-place, search-says}
+use Rattle.fields.proofs.Rows.{tableBad, fields-by-place}
 use Rattle.fields.proofs.searches.fields_bad.Statement.{statement}
 use Rattle.fields.proofs.searches.fields_bad.Tie as tie
 

@@ -1,124 +1,94 @@
--- `fields::slices::shape_bad` meets its contract: each table is tested as the definition tests it. Assumes nothing.
-use mathlib.Core.Bool.{_||_}
+-- `fields::slices::shape_bad` meets its contract: the tables that the loop has passed have their shape. Assumes nothing.
+use Prim.Native.Nat.{ℕ, _-_}
+use mathlib.Core.Path.{sym, ap, _∙_}
+use mathlib.Core.Bool.{Bool, _||_}
 use lib.Dec.{eqb}
 use borrow.Author.Needs.{needs}
+use Rattle.theory.proofs.Search.{Passed, passed-none, passed-more, passed-all, any-at}
+use Rattle.cells.specs.Limits.{tableCount}
 use Rattle.program.specs.Tables.{tablesIn, modeCount}
-use Rattle.rules.specs.Shape.{shapeBad}
+use Rattle.program.proofs.Places.{width-some}
+use Rattle.fields.proofs.Rows.{sliceBad, shape-by-place}
 use Rattle.fields.proofs.slices.shape_bad.Statement.{statement}
 use Rattle.fields.proofs.slices.shape_bad.Tie as tie
 
-element-copy-out-bad-slice : tie.Need-element-copy-out-bad-slice
+abbrev Inv-loop : tie.InvT-loop
+Inv-loop tables place₀ place = Passed (sliceBad tables) tableCount place
+
+abbrev μ-loop : tie.MeasureT-loop
+μ-loop tables place₀ place = tableCount - place
+
+loop-holds : tie.Need-loop-holds Inv-loop μ-loop
+loop-holds c = passed-none _ _
+
+mul-bad-slice : tie.Need-mul-bad-slice Inv-loop μ-loop
+mul-bad-slice c = search needs
+
+element-copy-out-bad-slice : tie.Need-element-copy-out-bad-slice Inv-loop μ-loop
 element-copy-out-bad-slice c = search needs
 
-bad-slice-requires : tie.Need-bad-slice-requires
-bad-slice-requires c κs = search needs
+mul-bad-slice-2 : tie.Need-mul-bad-slice-2 Inv-loop μ-loop
+mul-bad-slice-2 c = search needs
 
-element-copy-out-bad-slice-2 : tie.Need-element-copy-out-bad-slice-2
-element-copy-out-bad-slice-2 c = search needs
+array-read-bad-slice : tie.Need-array-read-bad-slice Inv-loop μ-loop
+array-read-bad-slice c = search needs
 
-bad-slice-requires-2 : tie.Need-bad-slice-requires-2
-bad-slice-requires-2 c κs = search needs
+mul-bad-slice-3 : tie.Need-mul-bad-slice-3 Inv-loop μ-loop
+mul-bad-slice-3 c = search needs
 
-element-copy-out-bad-slice-3 : tie.Need-element-copy-out-bad-slice-3
-element-copy-out-bad-slice-3 c = search needs
+array-read-bad-slice-2 : tie.Need-array-read-bad-slice-2 Inv-loop μ-loop
+array-read-bad-slice-2 c = search needs
 
-bad-slice-requires-3 : tie.Need-bad-slice-requires-3
-bad-slice-requires-3 c κs = search needs
+bad-slice-requires : tie.Need-bad-slice-requires Inv-loop μ-loop
+bad-slice-requires c κs = width-some (c .before .before .loop .place) (c .before .loop-test .taken)
 
-element-copy-out-bad-slice-4 : tie.Need-element-copy-out-bad-slice-4
-element-copy-out-bad-slice-4 c = search needs
-
-bad-slice-requires-4 : tie.Need-bad-slice-requires-4
-bad-slice-requires-4 c κs = search needs
-
-element-copy-out-bad-slice-5 : tie.Need-element-copy-out-bad-slice-5
-element-copy-out-bad-slice-5 c = search needs
-
-bad-slice-requires-5 : tie.Need-bad-slice-requires-5
-bad-slice-requires-5 c κs = search needs
-
-element-copy-out-bad-slice-6 : tie.Need-element-copy-out-bad-slice-6
-element-copy-out-bad-slice-6 c = search needs
-
-bad-slice-requires-6 : tie.Need-bad-slice-requires-6
-bad-slice-requires-6 c κs = search needs
-
-element-copy-out-bad-slice-7 : tie.Need-element-copy-out-bad-slice-7
-element-copy-out-bad-slice-7 c = search needs
-
-bad-slice-requires-7 : tie.Need-bad-slice-requires-7
-bad-slice-requires-7 c κs = search needs
-
-element-copy-out-bad-slice-8 : tie.Need-element-copy-out-bad-slice-8
-element-copy-out-bad-slice-8 c = search needs
-
-bad-slice-requires-8 : tie.Need-bad-slice-requires-8
-bad-slice-requires-8 c κs = search needs
-
-element-copy-out-bad-slice-9 : tie.Need-element-copy-out-bad-slice-9
-element-copy-out-bad-slice-9 c = search needs
-
-bad-slice-requires-9 : tie.Need-bad-slice-requires-9
-bad-slice-requires-9 c κs = search needs
-
-element-copy-out-bad-slice-10 : tie.Need-element-copy-out-bad-slice-10
-element-copy-out-bad-slice-10 c = search needs
-
-bad-slice-requires-10 : tie.Need-bad-slice-requires-10
-bad-slice-requires-10 c κs = search needs
-
-element-copy-out-result : tie.Need-element-copy-out-result
-element-copy-out-result c = search needs
-
-returns : tie.Need-returns
-unfolding shapeBad
+returns : tie.Need-returns Inv-loop μ-loop
 returns c start =
-    let c9 = c .before .before in
-    let c8 = c9 .before .before in
-    let c7 = c8 .before .before in
-    let c6 = c7 .before .before in
-    let c5 = c6 .before .before in
-    let c4 = c5 .before .before in
-    let c3 = c4 .before .before in
-    let c2 = c3 .before .before in
-    let c1 = c2 .before .before in
-    let T = tablesIn (c1 .before .before .args .tables .now) start in
-    λ i.
-    c1 .bad-slice .ensures i
-    || c2 .bad-slice2 .ensures i
-    || c3 .bad-slice3 .ensures i
-    || c4 .bad-slice4 .ensures i
-    || c5 .bad-slice5 .ensures i
-    || c6 .bad-slice6 .ensures i
-    || c7 .bad-slice7 .ensures i
-    || c8 .bad-slice8 .ensures i
-    || c9 .bad-slice9 .ensures i
-    || c .bad-slice10 .ensures i
-    || eqb (modeCount T) 0
+    let loop = c .before .before .before in
+    let lent = loop .before .before .args .tables .now in
+    let here = any-at (sliceBad lent) tableCount _ (loop .loop-test .taken) (sym (c .before .bad-slice .ensures) ∙ c .if1 .taken) in
+    sym (ap (λ (b : Bool). b || eqb (modeCount (tablesIn lent start)) 0) here) ∙ shape-by-place lent start
+
+add-place : tie.Need-add-place Inv-loop μ-loop
+add-place c = search needs
+
+loop-less : tie.Need-loop-less Inv-loop μ-loop
+loop-less c = search needs
+
+loop-again : tie.Need-loop-again Inv-loop μ-loop
+loop-again c =
+    let loop = c .before .before .before in
+    passed-more _ _ _ (loop .before .loop .inv) (loop .loop-test .taken) (sym (c .before .bad-slice .ensures) ∙ c .if1 .left)
+
+count-requires : tie.Need-count-requires Inv-loop μ-loop
+count-requires c κs = search needs
+
+returns-2 : tie.Need-returns-2 Inv-loop μ-loop
+returns-2 c start =
+    let loop = c .before in
+    let lent = loop .before .before .args .tables .now in
+    let none = passed-all (sliceBad lent) tableCount _ (loop .before .loop .inv) (loop .loop-test .left) in
+    ap (λ (n : ℕ). eqb n 0) (c .count .ensures start)
+    ∙ sym (ap (λ (b : Bool). b || eqb (modeCount (tablesIn lent start)) 0) none)
+    ∙ shape-by-place lent start
 
 pub shape-bad-spec : {M : Type 1} → statement M
 shape-bad-spec =
     tie.close
     (tie.spec
+    Inv-loop
+    μ-loop
+    loop-holds
+    mul-bad-slice
     element-copy-out-bad-slice
+    mul-bad-slice-2
+    array-read-bad-slice
+    mul-bad-slice-3
+    array-read-bad-slice-2
     bad-slice-requires
-    element-copy-out-bad-slice-2
-    bad-slice-requires-2
-    element-copy-out-bad-slice-3
-    bad-slice-requires-3
-    element-copy-out-bad-slice-4
-    bad-slice-requires-4
-    element-copy-out-bad-slice-5
-    bad-slice-requires-5
-    element-copy-out-bad-slice-6
-    bad-slice-requires-6
-    element-copy-out-bad-slice-7
-    bad-slice-requires-7
-    element-copy-out-bad-slice-8
-    bad-slice-requires-8
-    element-copy-out-bad-slice-9
-    bad-slice-requires-9
-    element-copy-out-bad-slice-10
-    bad-slice-requires-10
-    element-copy-out-result
-    returns)
+    returns
+    add-place
+    loop-less
+    loop-again
+    count-requires
+    returns-2)

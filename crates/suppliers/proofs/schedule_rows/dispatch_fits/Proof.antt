@@ -1,4 +1,5 @@
--- `suppliers::schedule_rows::dispatch_fits` meets its contract: the row says its kind, task and supplier, the task its own. Assumes nothing.
+-- `suppliers::schedule_rows::dispatch_fits` meets its contract: the row says its kind, task and supplier, the task its own. Assumes
+-- nothing.
 use mathlib.Core.Path.{refl}
 use Rattle.suppliers.specs.Schedule.{dispatchFits}
 use borrow.Author.Needs.{needs}

@@ -1,4 +1,5 @@
--- `cells::reading::Reading::within` meets its contract: the two tests of `inside`, of the three numbers read from their bits. Assumes nothing.
+-- `cells::reading::Reading::within` meets its contract: the two tests of `inside`, of the three numbers read from their bits. Assumes
+-- nothing.
 use Rattle.cells.specs.Reading.{inside}
 use Rattle.cells.proofs.Ints.{back₃}
 use Rattle.cells.proofs.reading.Reading.within.Statement.{statement}

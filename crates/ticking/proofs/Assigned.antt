@@ -1,0 +1,46 @@
+-- What all copies of a driver and all outputs of a task assign, row by row, is what the program says of them; and a driver
+-- assigns nothing unless its guard holds. Assumes nothing.
+use Prim.Native.Nat.{ℕ}
+use mathlib.Core.Path.{_≡_, refl, sym, ap, _∙_}
+use mathlib.Core.Bool.{Bool, true, false}
+use mathlib.Core.List.{List}
+use lib.Dec.{eqb}
+use lib.IntN.{ℤ}
+use Rattle.theory.specs.Lists.{Put, puts, those}
+use Rattle.theory.proofs.Lists.{map-those}
+use Rattle.cells.specs.Cell.{rowsIn}
+use Rattle.program.specs.Tables.{Tables, output, taskPortWidth, taskPortCount, tpPort, copyWidth, copyCount, copyDriver}
+use Rattle.program.specs.Guard.{guardOf, holds}
+use Rattle.program.specs.Program.{copyRow, driverRow, portsOf}
+use Rattle.program.specs.Ports.{valueOf, takes, moves, drive}
+use Rattle.ticking.specs.Values.{copyPut, copied, isOutputRow, outputPut}
+
+-- row c of the copies is one of driver d
+abbrev pub isCopyOf : Tables → ℕ → ℕ → Bool
+isCopyOf T d c = eqb (copyDriver T c) d
+
+module _ (T : Tables) where
+  module _ (d : ℕ) (v : List ℤ) where
+    -- the rows of the copies that are the driver's
+    pub copies-all : (copies : List ℤ) → T .copies ≡ copies
+        → puts (those (isCopyOf T d) (copyPut T v) (rowsIn copyWidth copies) 0) v ≡ copied T d v
+    copies-all copies e =
+        ap (λ (t : List ℤ). puts (those (isCopyOf T d) (copyPut T v) (rowsIn copyWidth t) 0) v) (sym e)
+        ∙ ap (λ (l : List Put). puts l v) (sym (map-those _ (isCopyOf T d) (copyRow T) (copyCount T) 0))
+
+    -- a guard that holds lets the driver copy
+    pub drive-copies : holds (guardOf T d) (valueOf v) ≡ true → copied T d v ≡ drive (driverRow T d) v
+    drive-copies e = rw (e, moves) refl
+
+    -- a guard that does not lets it do nothing
+    pub drive-nothing : holds (guardOf T d) (valueOf v) ≡ false → v ≡ drive (driverRow T d) v
+    drive-nothing e = rw (e, moves) refl
+
+  -- the rows of the task ports that are outputs of the task
+  pub outputs-all : (t : ℕ) (lent v taskPorts : List ℤ) → T .taskPorts ≡ taskPorts
+      → puts (those (isOutputRow T t) (outputPut T lent) (rowsIn taskPortWidth taskPorts) 0) v
+      ≡ puts (takes (valueOf lent) (portsOf T output t)) v
+  unfolding isOutputRow
+  outputs-all t lent v taskPorts e =
+      ap (λ (l : List ℤ). puts (those (isOutputRow T t) (outputPut T lent) (rowsIn taskPortWidth l) 0) v) (sym e)
+      ∙ ap (λ (l : List Put). puts l v) (sym (map-those _ (isOutputRow T t) (tpPort T) (taskPortCount T) 0))

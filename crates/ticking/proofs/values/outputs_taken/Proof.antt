@@ -1,0 +1,63 @@
+-- `ticking::values::outputs_taken` meets its contract: from every row on, the outputs left come to what all outputs come to. Assumes
+-- nothing.
+use Prim.Native.Nat.{_-_}
+use mathlib.Core.Path.{_≡_, _∙_}
+use lib.ListN.{length}
+use borrow.Author.Needs.{needs}
+use Rattle.cells.specs.Cell.{rowsIn}
+use Rattle.cells.specs.Limits.{maxPorts}
+use Rattle.program.specs.Tables.{Tables, taskPortWidth}
+use Rattle.ticking.specs.Values.{isOutputRow, outputPut}
+use Rattle.ticking.proofs.Rowwise.{RowsPut, rows-begun, rows-more, rows-ended}
+use Rattle.ticking.proofs.Assigned.{outputs-all}
+use Rattle.ticking.proofs.values.outputs_taken.Statement.{statement}
+use Rattle.ticking.proofs.values.outputs_taken.Tie as tie
+
+abbrev Inv-loop : tie.InvT-loop
+Inv-loop ports task-ports t lent n next₀ k₀ next k =
+    (length next ≡ maxPorts)
+    × ((T : Tables) → T .ports ≡ ports → T .taskPorts ≡ task-ports
+    → RowsPut (isOutputRow T (t .0)) (outputPut T lent) (rowsIn taskPortWidth task-ports) next₀ k next)
+
+abbrev μ-loop : tie.MeasureT-loop
+μ-loop ports task-ports t lent n next₀ k₀ next k = rowsIn taskPortWidth task-ports - k
+
+loop-holds : tie.Need-loop-holds Inv-loop μ-loop
+loop-holds c = (search needs, λ T e f. rows-begun)
+
+slice-aggregate-output-row : tie.Need-slice-aggregate-output-row Inv-loop μ-loop
+slice-aggregate-output-row c = let size = c .before .before .loop .inv .0 in search needs
+
+output-row-requires : tie.Need-output-row-requires Inv-loop μ-loop
+output-row-requires c κs = search needs
+
+add-k : tie.Need-add-k Inv-loop μ-loop
+add-k c = search needs
+
+loop-less : tie.Need-loop-less Inv-loop μ-loop
+loop-less c = search needs
+
+loop-again : tie.Need-loop-again Inv-loop μ-loop
+loop-again c =
+    let l = c .before .before .before in
+    let size = l .before .loop .inv .0 in
+    (search needs, λ T e f. rows-more _ (l .loop-test .taken) (c .before .output-row .ensures T e f) (l .before .loop .inv .1 T e f))
+
+returns : tie.Need-returns Inv-loop μ-loop
+returns c T e f =
+    let a = c .before .before .args in
+    rows-ended (c .loop-test .left) (c .before .loop .inv .1 T e f) ∙ outputs-all T (a .t .0) (a .lent .now) (a .values) (a .task-ports .now) f
+
+pub outputs-taken-spec : {M : Type 1} → statement M
+outputs-taken-spec =
+    tie.close
+    (tie.spec
+    Inv-loop
+    μ-loop
+    loop-holds
+    slice-aggregate-output-row
+    output-row-requires
+    add-k
+    loop-less
+    loop-again
+    returns)

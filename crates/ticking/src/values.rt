@@ -1,0 +1,129 @@
+// Port values: what a driver, a task's outputs and a sensor's reading put among them. No row copies them.
+ghost use mathlib.Core.Path.{_≡_};
+ghost use lib.ListN.{set};
+ghost use Rattle.theory.specs.Lists.{puts, each};
+ghost use Rattle.cells.specs.Limits.{maxPorts};
+ghost use Rattle.program.specs.Tables.{Tables, output, portFirst, copyDriver};
+ghost use Rattle.program.specs.Program.{portsOf, driverRow};
+ghost use Rattle.program.specs.Ports.{valueOf, takes, drive};
+ghost use Rattle.ticking.specs.Values.{putRow, copyPut, isOutputRow, outputPut, copied};
+ghost use lib.Dec.{eqb};
+use cells::columns::copy;
+use cells::columns::port;
+use cells::columns::task_port;
+use cells::kinds::Driver;
+use cells::kinds::Port;
+use cells::kinds::Task;
+use cells::limits::Program;
+use cells::table;
+use program::guard;
+use program::members;
+
+// Row i of the copies, if it is one of driver d: its source among the old values is put into the new.
+fn copy_row(copies: &[i32], d: Driver, old: &[i32], i: usize, new: &mut [i32])
+    ensures { λ _. ⌜ ((T : Tables) → T .copies ≡ now (copies .entry)
+        → now (new .exit) ≡ putRow (eqb (copyDriver T i) (d .0)) (copyPut T (now (old .entry)) i) (now (new .entry))) ⌝ }
+{
+    let own = table::driver(copies, copy::WIDTH, i, copy::DRIVER);
+    if own.index() == d.index() {
+        let source = table::port(copies, copy::WIDTH, i, copy::SOURCE);
+        let destination = table::port(copies, copy::WIDTH, i, copy::DESTINATION);
+        table::put_value(new, destination.index(), table::value(old, source.index()));
+    }
+}
+
+// All copies of driver d: every source is read before any destination is written.
+fn copied(copies: &[i32], d: Driver, values: [i32; Program::PORTS]) -> [i32; Program::PORTS]
+    ensures { λ r. ⌜ ((T : Tables) → T .copies ≡ now (copies .entry) → r ≡ copied T (d .0) values) ⌝ }
+{
+    let n = copies.len() / copy::WIDTH;
+    let mut next = values;
+    let mut i = 0;
+    while i < n {
+        copy_row(copies, d, &values, i, &mut next);
+        i += 1;
+    }
+    next
+}
+
+// What driver d makes of the values: it copies only when its guard holds.
+pub fn driven(
+    drivers: &[i32],
+    copies: &[i32],
+    d: Driver,
+    values: [i32; Program::PORTS],
+) -> [i32; Program::PORTS]
+    ensures { λ r. ⌜ ((T : Tables) → T .drivers ≡ now (drivers .entry) → T .copies ≡ now (copies .entry)
+        → r ≡ drive (driverRow T (d .0)) values) ⌝ }
+{
+    if guard::guard_holds(drivers, d, &values) {
+        return copied(copies, d, values);
+    }
+    values
+}
+
+// Row k of the task ports, if it is an output of task t: its value among those lent is put.
+fn output_row(
+    ports: &[i32],
+    task_ports: &[i32],
+    t: Task,
+    lent: &[i32],
+    k: usize,
+    values: &mut [i32],
+)
+    ensures { λ _. ⌜ ((T : Tables) → T .ports ≡ now (ports .entry) → T .taskPorts ≡ now («task_ports» .entry)
+        → now (values .exit) ≡ putRow (isOutputRow T (t .0) k) (outputPut T (now (lent .entry)) k) (now (values .entry))) ⌝ }
+{
+    let own = table::task(task_ports, task_port::WIDTH, k, task_port::TASK);
+    let p = table::port(task_ports, task_port::WIDTH, k, task_port::PORT);
+    if (own.index() == t.index()) & members::is_kind(ports, port::OUTPUT, p) {
+        table::put_value(values, p.index(), table::value(lent, p.index()));
+    }
+}
+
+// All outputs of task t take their values among those lent.
+pub fn outputs_taken(
+    ports: &[i32],
+    task_ports: &[i32],
+    t: Task,
+    lent: &[i32],
+    values: [i32; Program::PORTS],
+) -> [i32; Program::PORTS]
+    ensures { λ r. ⌜ ((T : Tables) → T .ports ≡ now (ports .entry) → T .taskPorts ≡ now («task_ports» .entry)
+        → r ≡ puts (takes (valueOf (now (lent .entry))) (portsOf T output (t .0))) values) ⌝ }
+{
+    let n = task_ports.len() / task_port::WIDTH;
+    let mut next = values;
+    let mut k = 0;
+    while k < n {
+        output_row(ports, task_ports, t, lent, k, &mut next);
+        k += 1;
+    }
+    next
+}
+
+// Port p takes its reading.
+pub fn reading_taken(
+    readings: &[i32],
+    p: Port,
+    values: [i32; Program::PORTS],
+) -> [i32; Program::PORTS]
+    ensures { λ r. ⌜ r ≡ set values (p .0) (valueOf (now (readings .entry)) (p .0)) ⌝ }
+{
+    let mut next = values;
+    table::put_value(&mut next, p.index(), table::value(readings, p.index()));
+    next
+}
+
+// The first value of each port, 0 where none is declared.
+pub fn first_values(ports: &[i32]) -> [i32; Program::PORTS]
+    ensures { λ r. ⌜ ((T : Tables) → T .ports ≡ now (ports .entry) → r ≡ each (portFirst T) maxPorts 0) ⌝ }
+{
+    let mut values = [0; Program::PORTS];
+    let mut p = 0;
+    while p < Program::PORTS {
+        values[p] = table::signed(ports, port::WIDTH, p, port::FIRST);
+        p += 1;
+    }
+    values
+}
