@@ -19,9 +19,10 @@ use Rattle.layout.specs.declared.counts.Counts.{Counts}
 use Rattle.layout.specs.Counts.{sizeOf, mostBlock, mostMode}
 use Rattle.layout.specs.Few.{Sized}
 use Rattle.layout.proofs.Limits.{block-most}
-use Rattle.compiler.specs.Block.{Aimed, countsAt, unitOf, nextIn, aimIn, blockIn, blockStart}
+use Rattle.writing.specs.Block.{Aimed, countsAt}
+use Rattle.compiler.specs.Rounds.{unitOf, nextIn, aimIn, blockIn, blockStart}
 use Rattle.compiler.specs.declared.rounds.Round.{Round}
-use Rattle.compiler.proofs.Parts.{sized, parts-count}
+use Rattle.writing.proofs.Parts.{sized, parts-count}
 
 -- the block after the last unit's is the first, after any other the one that follows
 pub next-last : (round : Round) (k end : ℕ) → k + 1 ≡ round .units → round .first ≡ nextIn round k end

@@ -8,8 +8,8 @@ use native.Mathlib.Omega.{arith}
 use lib.ListN.{length}
 use Rattle.theory.specs.Lists.{cat, sum}
 use Rattle.theory.proofs.Lists.{cat-length}
-use Rattle.compiler.specs.Written.{Words, Written, writes}
-use Rattle.compiler.proofs.Written.{writes-then, writes-length, written-at}
+use Rattle.writing.specs.Written.{Words, Written, writes}
+use Rattle.writing.proofs.Written.{writes-then, writes-length, written-at}
 
 -- after i of n pieces the loop is at `here`
 pub record Grown (piece : ℕ → List Words) (n i : ℕ) (start here : Written) : Type 0 where

@@ -23,9 +23,10 @@ use Rattle.code.proofs.Accepted.{accepted-aims}
 use Rattle.layout.specs.Counts.{countsOf, beforeFuture, sizeOf}
 use Rattle.layout.proofs.Sizes.{future-counted}
 use Rattle.layout.proofs.Laid.{counts-mode, start-mode}
-use Rattle.compiler.specs.Written.{Words, three}
-use Rattle.compiler.specs.Switches.{switchesIn, stubsIn}
-use Rattle.compiler.specs.Block.{countsAt, nextIn, blockIn, blockStart}
+use Rattle.writing.specs.Written.{Words, three}
+use Rattle.writing.specs.Switches.{switchesIn, stubsIn}
+use Rattle.writing.specs.Block.{countsAt}
+use Rattle.compiler.specs.Rounds.{nextIn, blockIn, blockStart}
 use Rattle.compiler.specs.Modes.{roundOf, modeIn, modeStart, allIn}
 use Rattle.compiler.proofs.Pieces.{when, head-same, body-same, switches-same, stubs-same}
 

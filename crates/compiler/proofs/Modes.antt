@@ -11,7 +11,8 @@ use Rattle.program.specs.Sets.{sensorRows}
 use Rattle.program.specs.Units.{units}
 use Rattle.layout.specs.Counts.{sizeOf}
 use Rattle.layout.specs.Layout.{sizeIn}
-use Rattle.compiler.specs.Block.{countsAt, unitOf, blockIn, blockStart, roundIn}
+use Rattle.writing.specs.Block.{countsAt}
+use Rattle.compiler.specs.Rounds.{unitOf, blockIn, blockStart, roundIn}
 use Rattle.compiler.specs.Modes.{roundOf, modeIn}
 use Rattle.compiler.proofs.Aims.{block-length}
 

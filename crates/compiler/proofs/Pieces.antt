@@ -15,12 +15,13 @@ use Rattle.program.specs.Program.{Program, Invocation, Update, Switch, invocati
 use Rattle.program.proofs.Decoded.{sensors-rows, due-invocations, due-updates, due-switches}
 use Rattle.code.specs.Op.{Op, schedule, jump}
 use Rattle.code.specs.Listing.{callDriver, callOutput, callSensor, entryAddress, headOf, bodyOf, stubsOf}
-use Rattle.compiler.specs.Written.{Words, instruction, three}
-use Rattle.compiler.specs.Rows.{isDue, dueAt, formRows, reading}
-use Rattle.compiler.specs.Switches.{switchesIn, stubsIn}
-use Rattle.compiler.specs.Block.{updateForm, headIn, bodyIn, unitOf}
+use Rattle.writing.specs.Written.{Words, instruction, three}
+use Rattle.writing.specs.Rows.{isDue, dueAt, formRows, reading}
+use Rattle.writing.specs.Switches.{switchesIn, stubsIn}
+use Rattle.writing.specs.Block.{updateForm, headIn, bodyIn}
+use Rattle.compiler.specs.Rounds.{unitOf}
 use Rattle.compiler.specs.Modes.{roundOf}
-use Rattle.compiler.specs.declared.rows.Instant.{Instant}
+use Rattle.writing.specs.declared.rows.Instant.{Instant}
 
 -- a base of 0 adds nothing
 no-base : (width column number : ℕ) (t : List ℤ) (when : Instant)

@@ -1,7 +1,4 @@
--- E code as it is written into a lent slice.
-pub mod Written
-pub mod Rows
-pub mod Switches
-pub mod Block
+-- E code of all modes as it is written into a lent slice, and what compiling answers.
+pub mod Rounds
 pub mod Modes
 pub mod Listed

@@ -9,8 +9,8 @@ use Rattle.program.specs.Sets.{sensorRows}
 use Rattle.program.specs.Units.{units}
 use Rattle.code.specs.Op.{jump}
 use Rattle.layout.specs.Layout.{startIn}
-use Rattle.compiler.specs.Written.{Words, three}
-use Rattle.compiler.specs.Block.{roundIn}
+use Rattle.writing.specs.Written.{Words, three}
+use Rattle.compiler.specs.Rounds.{roundIn}
 use Rattle.compiler.specs.declared.rounds.Round.{Round}
 
 -- the round of mode m, whose first block stands at an address

@@ -10,13 +10,8 @@ use cells::table;
 use code::Compiled;
 
 mod accepted;
-mod blocks;
 mod listing;
 mod rounds;
-mod rows;
-mod sensors;
-mod switches;
-mod words;
 
 // Any slices at all may be lent. A refusal leaves the slice as it was; a listing leaves the rest of it as it was.
 pub fn compile(tables: &[&[i32]; Program::TABLES], program: Program, code: &mut [u32]) -> Compiled

@@ -10,12 +10,11 @@ ghost use Rattle.program.specs.Sets.{sensorRows};
 ghost use Rattle.rules.specs.Shape.{InShape};
 ghost use Rattle.layout.specs.Counts.{mostMode};
 ghost use Rattle.layout.specs.Few.{Periods};
-ghost use Rattle.compiler.specs.Written.{written, writes};
-ghost use Rattle.compiler.specs.Switches.{Addresses};
+ghost use Rattle.writing.specs.Written.{written, writes};
+ghost use Rattle.writing.specs.Switches.{Addresses};
 ghost use Rattle.compiler.specs.Modes.{modeIn, modesIn, allIn};
 use crate::rounds;
 use crate::rounds::Round;
-use crate::words;
 use cells::columns::mode;
 use cells::kinds::Mode;
 use cells::limits::Program;
@@ -23,6 +22,7 @@ use cells::table;
 use cells::tables;
 use code::numbers;
 use program::multiples;
+use writing::words;
 
 // The blocks of mode m, of which the first stands at `at`.
 fn one_mode(

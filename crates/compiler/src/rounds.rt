@@ -10,17 +10,17 @@ ghost use Rattle.program.specs.Sets.{sensorRows};
 ghost use Rattle.rules.specs.Shape.{InShape};
 ghost use Rattle.layout.specs.Counts.{mostBlock, mostMode};
 ghost use Rattle.layout.specs.Few.{Sized};
-ghost use Rattle.compiler.specs.Written.{written, writes};
-ghost use Rattle.compiler.specs.Switches.{Addresses};
-ghost use Rattle.compiler.specs.Block.{nextIn, aimIn, blockIn, roundIn};
-use crate::blocks;
-use crate::blocks::Aim;
-use crate::rows::Instant;
+ghost use Rattle.writing.specs.Written.{written, writes};
+ghost use Rattle.writing.specs.Switches.{Addresses};
+ghost use Rattle.compiler.specs.Rounds.{nextIn, aimIn, blockIn, roundIn};
 use cells::kinds::Mode;
 use cells::limits::Program;
 use cells::tables;
 use layout::counts;
 use layout::counts::Counts;
+use writing::blocks;
+use writing::blocks::Aim;
+use writing::rows::Instant;
 
 // The round of a mode: the mode, its units, the ticks of one, and where its first block stands.
 pub struct Round {

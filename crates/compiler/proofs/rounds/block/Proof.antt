@@ -7,10 +7,11 @@ use Rattle.program.specs.Tables.{Tables, tablesIn}
 use Rattle.layout.specs.declared.counts.Counts.{Counts}
 use Rattle.layout.specs.Counts.{countsIn}
 use Rattle.layout.specs.Few.{Sized}
-use Rattle.compiler.specs.declared.blocks.Aim.{Aim}
-use Rattle.compiler.specs.Written.{written, writes}
-use Rattle.compiler.specs.Block.{Aimed, partsIn, countsAt, unitOf, aimIn}
-use Rattle.compiler.proofs.Parts.{sized}
+use Rattle.writing.specs.declared.blocks.Aim.{Aim}
+use Rattle.writing.specs.Written.{written, writes}
+use Rattle.writing.specs.Block.{Aimed, partsIn, countsAt}
+use Rattle.compiler.specs.Rounds.{unitOf, aimIn}
+use Rattle.writing.proofs.Parts.{sized}
 use Rattle.compiler.proofs.Aims.{aimed}
 use Rattle.compiler.proofs.rounds.block.Statement.{statement}
 use Rattle.compiler.proofs.rounds.block.Tie as tie

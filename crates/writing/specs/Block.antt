@@ -1,0 +1,65 @@
+-- A block as it is written from the lent tables. Assumes nothing.
+use Prim.Native.Nat.{ℕ, _+_, _*_, _≤_}
+use mathlib.Core.List.{List, [], _∷_, _++_, map}
+use lib.IntN.{ℤ}
+use lib.ListN.{length}
+use Rattle.cells.specs.Cell.{greatestWord}
+use Rattle.cells.specs.Limits.{maxSwitches, firstOutputCall}
+use Rattle.program.specs.Tables.{Tables, invocationWidth, invocationTask, invocationDriver, updateWidth, updateDriver}
+use Rattle.program.specs.Sets.{sensorRows}
+use Rattle.code.specs.Op.{future, return, callNumber, scheduleNumber}
+use Rattle.code.specs.Listing.{testsOf}
+use Rattle.layout.specs.declared.counts.Counts.{Counts}
+use Rattle.layout.specs.Counts.{countsIn}
+use Rattle.writing.specs.Written.{Words, three}
+use Rattle.writing.specs.Rows.{reading, formRows}
+use Rattle.writing.specs.Switches.{switchesIn, stubsIn}
+use Rattle.writing.specs.declared.rows.Form.{Form}
+use Rattle.writing.specs.declared.rows.Instant.{Instant}
+use Rattle.writing.specs.declared.blocks.Aim.{Aim}
+
+-- the output copy of a task, a due update, a task driver, a schedule
+abbrev pub outputForm : Form
+outputForm = record { width = invocationWidth; column = invocationTask; number = callNumber; base = firstOutputCall }
+
+abbrev pub updateForm : Form
+updateForm = record { width = updateWidth; column = updateDriver; number = callNumber; base = 0 }
+
+abbrev pub driverForm : Form
+driverForm = record { width = invocationWidth; column = invocationDriver; number = callNumber; base = 0 }
+
+abbrev pub scheduleForm : Form
+scheduleForm = record { width = invocationWidth; column = invocationTask; number = scheduleNumber; base = 0 }
+
+-- the numbers in a block fit words, and so does the address of each of its stubs
+pub record Aimed (aim : Aim) : Type 0 where
+  pub stub : aim .stub + 2 * maxSwitches ≤ greatestWord
+  pub ticks : aim .ticks ≤ greatestWord
+  pub next : aim .next ≤ greatestWord
+
+-- output copies of due tasks; due updates; all sensors
+abbrev pub headIn : List ℤ → List ℤ → List ℤ → Instant → List Words
+headIn ports invocations updates when =
+    formRows outputForm invocations when ++ (formRows updateForm updates when ++ sensorRows ports reading)
+
+-- (entry) due task drivers; their schedules
+abbrev pub bodyIn : List ℤ → Instant → List Words
+bodyIn invocations when = formRows driverForm invocations when ++ formRows scheduleForm invocations when
+
+-- `future` one unit, next unit's block; `return`
+abbrev pub endIn : Aim → List Words
+endIn aim = map three (future (aim .ticks) (aim .next) ∷ return ∷ [])
+
+-- the parts of a block, with these numbers in them
+abbrev pub partsIn : Tables → List ℕ → Instant → Aim → List Words
+partsIn T entries when aim =
+    headIn (T .ports) (T .invocations) (T .updates) when
+    ++ (map three (testsOf (switchesIn (T .switches) when) (aim .stub))
+    ++ (bodyIn (T .invocations) when
+    ++ (endIn aim
+    ++ map three (stubsIn entries (switchesIn (T .switches) when)))))
+
+-- how many there are of each
+abbrev pub countsAt : Tables → Instant → Counts
+countsAt T when =
+    countsIn (T .invocations) (T .updates) (T .switches) (length (sensorRows (T .ports) (λ p. p))) (when .mode .0) (when .units) (when .unit)
