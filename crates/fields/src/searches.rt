@@ -2,7 +2,7 @@
 ghost use mathlib.Core.Path.{_≡_};
 ghost use lib.IntN.{ℤ};
 ghost use Rattle.theory.specs.Search.{first};
-ghost use Rattle.program.specs.Tables.{tablesIn, rowsAt};
+ghost use Rattle.program.specs.Tables.{tablesIn};
 ghost use Rattle.rules.specs.Fields.{fieldsBad};
 ghost use Rattle.fields.specs.Rows.{rowBad};
 use crate::ranges;
@@ -29,11 +29,10 @@ fn row_bad(tables: &[&[i32]; Program::TABLES], place: usize, row: usize) -> bool
     }
 }
 
-// The lowest bad row of the table at a place; the number of its rows where none is.
-pub fn first_bad(tables: &[&[i32]; Program::TABLES], place: usize) -> usize
-    ensures { λ r. ⌜ ((start : ℤ) → let T = tablesIn (now (tables .entry)) start in r ≡ first (rowBad T place) (rowsAt T place)) ⌝ }
+// The lowest bad row of the first n of the table at a place; n where none is.
+pub fn first_bad(tables: &[&[i32]; Program::TABLES], place: usize, n: usize) -> usize
+    ensures { λ r. ⌜ ((start : ℤ) → r ≡ first (rowBad (tablesIn (now (tables .entry)) start) place) n) ⌝ }
 {
-    let n = rows::count(tables, place);
     let mut row = 0;
     while row < n {
         if row_bad(tables, place, row) {
@@ -50,7 +49,8 @@ pub fn fields_bad(tables: &[&[i32]; Program::TABLES], program: Program) -> bool
 {
     let mut place = 0;
     while place < Program::TABLES {
-        if first_bad(tables, place) < rows::count(tables, place) {
+        let n = rows::count(tables, place);
+        if first_bad(tables, place, n) < n {
             return true;
         }
         place += 1;

@@ -40,28 +40,33 @@ fn applies(tables: &[&[i32]; Program::TABLES], program: Program, number: usize) 
     requires { ⌜ InShape (now tables) ⌝ }
     ensures { λ r. ⌜ r ≡ appliesBy tableRefusals number (tablesIn (now (tables .entry)) (program .start)) ⌝ }
 {
-    let ports = tables[tables::PORTS];
-    let task_ports = tables[tables::TASK_PORTS];
-    let copies = tables[tables::COPIES];
-    let mode_ports = tables[tables::MODE_PORTS];
-    let invocations = tables[tables::INVOCATIONS];
-    let switches = tables[tables::SWITCHES];
     match number {
         refusals::FIELDS => searches::fields_bad(tables, program),
-        refusals::TASK_PORTS => task_ports::first_task_port_clash(ports, task_ports)
-            < rows::count(tables, tables::TASK_PORTS),
-        refusals::COPIES => copies::first_copy_clash(copies) < rows::count(tables, tables::COPIES),
-        refusals::MODE_PORTS => mode_ports::first_mode_port_clash(ports, mode_ports)
-            < rows::count(tables, tables::MODE_PORTS),
-        refusals::INVOCATIONS => invocations::first_wrong_invocation(tables)
-            < rows::count(tables, tables::INVOCATIONS),
-        refusals::UPDATES => updates::first_wrong_update(tables)
-            < rows::count(tables, tables::UPDATES),
-        refusals::SWITCHES => switches::first_wrong_switch(tables)
-            < rows::count(tables, tables::SWITCHES),
+        refusals::TASK_PORTS => {
+            task_ports::first_task_port_clash(tables[tables::PORTS], tables[tables::TASK_PORTS])
+                < rows::count(tables, tables::TASK_PORTS)
+        }
+        refusals::COPIES => {
+            copies::first_copy_clash(tables[tables::COPIES]) < rows::count(tables, tables::COPIES)
+        }
+        refusals::MODE_PORTS => {
+            mode_ports::first_mode_port_clash(tables[tables::PORTS], tables[tables::MODE_PORTS])
+                < rows::count(tables, tables::MODE_PORTS)
+        }
+        refusals::INVOCATIONS => {
+            invocations::first_wrong_invocation(tables) < rows::count(tables, tables::INVOCATIONS)
+        }
+        refusals::UPDATES => {
+            updates::first_wrong_update(tables) < rows::count(tables, tables::UPDATES)
+        }
+        refusals::SWITCHES => {
+            switches::first_wrong_switch(tables) < rows::count(tables, tables::SWITCHES)
+        }
         refusals::UNITS => units::first_wrong_units(tables) < rows::count(tables, tables::MODES),
-        refusals::WHOLE => whole::first_not_whole(invocations, switches)
-            < rows::count(tables, tables::SWITCHES),
+        refusals::WHOLE => {
+            whole::first_not_whole(tables[tables::INVOCATIONS], tables[tables::SWITCHES])
+                < rows::count(tables, tables::SWITCHES)
+        }
         _ => false,
     }
 }

@@ -23,26 +23,14 @@ use Rattle.verdict.proofs.Asked.{applies-as, applies-other}
 use Rattle.verdict.proofs.applies.Statement.{statement}
 use Rattle.verdict.proofs.applies.Tie as tie
 
-element-copy-out-ports : tie.Need-element-copy-out-ports
-element-copy-out-ports c = search needs
-
-element-copy-out-task-ports : tie.Need-element-copy-out-task-ports
-element-copy-out-task-ports c = search needs
-
-element-copy-out-copies : tie.Need-element-copy-out-copies
-element-copy-out-copies c = search needs
-
-element-copy-out-mode-ports : tie.Need-element-copy-out-mode-ports
-element-copy-out-mode-ports c = search needs
-
-element-copy-out-invocations : tie.Need-element-copy-out-invocations
-element-copy-out-invocations c = search needs
-
-element-copy-out-switches : tie.Need-element-copy-out-switches
-element-copy-out-switches c = search needs
-
 fields-bad-requires : tie.Need-fields-bad-requires
 fields-bad-requires c κs = search needs
+
+element-copy-out-first-task-port-clash : tie.Need-element-copy-out-first-task-port-clash
+element-copy-out-first-task-port-clash c = search needs
+
+element-copy-out-first-task-port-clash-2 : tie.Need-element-copy-out-first-task-port-clash-2
+element-copy-out-first-task-port-clash-2 c = search needs
 
 first-task-port-clash-requires : tie.Need-first-task-port-clash-requires
 first-task-port-clash-requires c κs = search needs
@@ -50,11 +38,20 @@ first-task-port-clash-requires c κs = search needs
 count-requires : tie.Need-count-requires
 count-requires c κs = search needs
 
+element-copy-out-first-copy-clash : tie.Need-element-copy-out-first-copy-clash
+element-copy-out-first-copy-clash c = search needs
+
 first-copy-clash-requires : tie.Need-first-copy-clash-requires
 first-copy-clash-requires c κs = search needs
 
 count-requires-2 : tie.Need-count-requires-2
 count-requires-2 c κs = search needs
+
+element-copy-out-first-mode-port-clash : tie.Need-element-copy-out-first-mode-port-clash
+element-copy-out-first-mode-port-clash c = search needs
+
+element-copy-out-first-mode-port-clash-2 : tie.Need-element-copy-out-first-mode-port-clash-2
+element-copy-out-first-mode-port-clash-2 c = search needs
 
 first-mode-port-clash-requires : tie.Need-first-mode-port-clash-requires
 first-mode-port-clash-requires c κs = search needs
@@ -86,23 +83,26 @@ first-wrong-units-requires c κs = search needs
 count-requires-7 : tie.Need-count-requires-7
 count-requires-7 c κs = search needs
 
+element-copy-out-first-not-whole : tie.Need-element-copy-out-first-not-whole
+element-copy-out-first-not-whole c = search needs
+
+element-copy-out-first-not-whole-2 : tie.Need-element-copy-out-first-not-whole-2
+element-copy-out-first-not-whole-2 c = search needs
+
 first-not-whole-requires : tie.Need-first-not-whole-requires
 first-not-whole-requires c κs = search needs
 
 count-requires-8 : tie.Need-count-requires-8
 count-requires-8 c κs = search needs
 
--- what was lent: the tables of their shape, and the program with its start mode
-abbrev start : tie.After-switches → tie.Start
-start c = c .before .before .before .before .before .before
-
-abbrev lent : tie.After-switches → Tables
-lent c = tablesIn (start c .args .tables .now) (start c .args .program .start)
+-- the program that was lent
+abbrev lent : tie.Start → Tables
+lent s = tablesIn (s .args .tables .now) (s .args .program .start)
 
 -- whether a search of a table's rows found one, where that is what the number asks
-found : (c : tie.After-switches) {k : ℕ} → start c .args .number ≡ k → (p : ℕ → Bool) {n m r : ℕ} → r ≡ first p n
-    → (ℤ → m ≡ n) → any p n ≡ appliesBy tableRefusals k (lent c) → ltb r m ≡ appliesBy tableRefusals (start c .args .number) (lent c)
-found c e p f g h = applies-as tableRefusals (lent c) e (search-says p f (g (lent c .start)) ∙ h)
+found : (s : tie.Start) {k : ℕ} → s .args .number ≡ k → (p : ℕ → Bool) {n m r : ℕ} → r ≡ first p n
+    → (ℤ → m ≡ n) → any p n ≡ appliesBy tableRefusals k (lent s) → ltb r m ≡ appliesBy tableRefusals (s .args .number) (lent s)
+found s e p f g h = applies-as tableRefusals (lent s) e (search-says p f (g (lent s .start)) ∙ h)
 
 -- tests that agree on every row agree on some row
 any-alike : (p q : ℕ → Bool) (n : ℕ) → ((k : ℕ) → k < n → p k ≡ q k) → any p n ≡ any q n
@@ -122,70 +122,70 @@ returns c = applies-as tableRefusals _ (c .before .match .keys1) (c .fields-bad 
 returns-2 : tie.Need-returns-2
 unfolding taskPortsBad
 returns-2 c =
-    let l = c .before .before .before in
-    found l (c .before .before .match .keys2) _ (c .before .first-task-port-clash .ensures (lent l) refl refl) (c .count .ensures) refl
+    let m = c .before .before .before .before in
+    found (m .before) (m .match .keys2) _ (c .before .first-task-port-clash .ensures (lent (m .before)) refl refl) (c .count .ensures) refl
 
 returns-3 : tie.Need-returns-3
 unfolding copiesBad
 returns-3 c =
-    let l = c .before .before .before in
-    found l (c .before .before .match .keys3) _ (c .before .first-copy-clash .ensures (lent l) refl) (c .count2 .ensures) refl
+    let m = c .before .before .before in
+    found (m .before) (m .match .keys3) _ (c .before .first-copy-clash .ensures (lent (m .before)) refl) (c .count2 .ensures) refl
 
 returns-4 : tie.Need-returns-4
 unfolding modePortsBad
 returns-4 c =
-    let l = c .before .before .before in
-    found l (c .before .before .match .keys4) _ (c .before .first-mode-port-clash .ensures (lent l) refl refl) (c .count3 .ensures) refl
+    let m = c .before .before .before .before in
+    found (m .before) (m .match .keys4) _ (c .before .first-mode-port-clash .ensures (lent (m .before)) refl refl) (c .count3 .ensures) refl
 
 returns-5 : tie.Need-returns-5
 unfolding invocationsBad
 returns-5 c =
-    let l = c .before .before .before in
-    found l (c .before .before .match .keys5) _ (c .before .first-wrong-invocation .ensures _) (c .count4 .ensures) refl
+    let m = c .before .before in
+    found (m .before) (m .match .keys5) _ (c .before .first-wrong-invocation .ensures _) (c .count4 .ensures) refl
 
 returns-6 : tie.Need-returns-6
 unfolding updatesBad
 returns-6 c =
-    let l = c .before .before .before in
-    found l (c .before .before .match .keys6) _ (c .before .first-wrong-update .ensures _) (c .count5 .ensures) refl
+    let m = c .before .before in
+    found (m .before) (m .match .keys6) _ (c .before .first-wrong-update .ensures _) (c .count5 .ensures) refl
 
 returns-7 : tie.Need-returns-7
 unfolding switchesBad
 returns-7 c =
-    let l = c .before .before .before in
-    found l (c .before .before .match .keys7) _ (c .before .first-wrong-switch .ensures _) (c .count6 .ensures) refl
+    let m = c .before .before in
+    found (m .before) (m .match .keys7) _ (c .before .first-wrong-switch .ensures _) (c .count6 .ensures) refl
 
 returns-8 : tie.Need-returns-8
 unfolding unitsBad
 returns-8 c =
-    let l = c .before .before .before in
-    let shaped = start l .pre (lent l .start) in
-    found l (c .before .before .match .keys8) _ (c .before .first-wrong-units .ensures _) (c .count7 .ensures) (named (lent l) shaped)
+    let m = c .before .before in
+    let T = lent (m .before) in
+    let shaped = m .before .pre (T .start) in
+    found (m .before) (m .match .keys8) _ (c .before .first-wrong-units .ensures _) (c .count7 .ensures) (named T shaped)
 
 returns-9 : tie.Need-returns-9
 unfolding wholeBad
 returns-9 c =
-    let l = c .before .before .before in
-    found l (c .before .before .match .keys9) _ (c .before .first-not-whole .ensures (lent l) refl refl) (c .count8 .ensures) refl
+    let m = c .before .before .before .before in
+    found (m .before) (m .match .keys9) _ (c .before .first-not-whole .ensures (lent (m .before)) refl refl) (c .count8 .ensures) refl
 
 returns-10 : tie.Need-returns-10
-returns-10 c = sym (applies-other (Unit {0}) tableRefusals (lent (c .before)) (start (c .before) .args .number) (c .match .rest) .1)
+returns-10 c = sym (applies-other (Unit {0}) tableRefusals (lent (c .before)) (c .before .args .number) (c .match .rest) .1)
 
 pub applies-spec : {M : Type 1} → statement M
 applies-spec =
     tie.close
     (tie.spec
-    element-copy-out-ports
-    element-copy-out-task-ports
-    element-copy-out-copies
-    element-copy-out-mode-ports
-    element-copy-out-invocations
-    element-copy-out-switches
     fields-bad-requires
+    element-copy-out-first-task-port-clash
+    element-copy-out-first-task-port-clash-2
     first-task-port-clash-requires
     count-requires
+    element-copy-out-first-copy-clash
     first-copy-clash-requires
     count-requires-2
+    element-copy-out-first-mode-port-clash
+    element-copy-out-first-mode-port-clash-2
     first-mode-port-clash-requires
     count-requires-3
     first-wrong-invocation-requires
@@ -196,6 +196,8 @@ applies-spec =
     count-requires-6
     first-wrong-units-requires
     count-requires-7
+    element-copy-out-first-not-whole
+    element-copy-out-first-not-whole-2
     first-not-whole-requires
     count-requires-8
     returns

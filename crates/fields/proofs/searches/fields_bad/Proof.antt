@@ -5,10 +5,12 @@ use mathlib.Core.Bool.{Bool, _||_}
 use lib.Dec.{ltb}
 use borrow.Author.Needs.{needs}
 use borrow.Author.Tests.{lt-ltb, le-ltb}
+use Rattle.theory.specs.Search.{first}
 use Rattle.theory.proofs.Search.{Passed, passed-none, passed-more, passed-all, any-at, search-says}
 use Rattle.cells.specs.Limits.{tableCount}
 use Rattle.program.specs.Tables.{Tables, tablesIn}
 use Rattle.rules.specs.Fields.{startBad}
+use Rattle.fields.specs.Rows.{rowBad}
 use Rattle.fields.proofs.Rows.{tableBad, fields-by-place}
 use Rattle.fields.proofs.searches.fields_bad.Statement.{statement}
 use Rattle.fields.proofs.searches.fields_bad.Tie as tie
@@ -22,22 +24,24 @@ abbrev μ-loop : tie.MeasureT-loop
 loop-holds : tie.Need-loop-holds Inv-loop μ-loop
 loop-holds c = passed-none _ _
 
-first-bad-requires : tie.Need-first-bad-requires Inv-loop μ-loop
-first-bad-requires c κs = search needs
-
 count-requires : tie.Need-count-requires Inv-loop μ-loop
 count-requires c κs = search needs
+
+first-bad-requires : tie.Need-first-bad-requires Inv-loop μ-loop
+first-bad-requires c κs = search needs
 
 -- the program that was lent
 abbrev lent : tie.Start Inv-loop μ-loop → Tables
 lent c = tablesIn (c .args .tables .now) (c .args .program .start)
 
--- the test of the two searches says whether the table at the loop's place has a bad row
-told : (c : tie.After-count Inv-loop μ-loop)
-    → ltb (c .before .first-bad .result) (c .count .result) ≡ tableBad (lent (c .before .before .before .before)) (c .before .before .before .loop .place)
+-- the search says whether the table at the loop's place has a bad row
+told : (c : tie.After-first-bad Inv-loop μ-loop)
+    → ltb (c .first-bad .result) (c .before .count .result) ≡ tableBad (lent (c .before .before .before .before)) (c .before .before .before .loop .place)
 told c =
-    let start = c .before .before .before .before .args .program .start in
-    search-says _ (c .before .first-bad .ensures start) (c .count .ensures start)
+    let a = c .before .before .before .before .args in
+    let T = lent (c .before .before .before .before) in
+    let same = c .before .count .ensures (a .program .start) in
+    search-says _ (c .first-bad .ensures (a .program .start) ∙ ap (first (rowBad T (c .before .before .before .loop .place))) same) same
 
 returns : tie.Need-returns Inv-loop μ-loop
 returns c =
@@ -77,8 +81,8 @@ fields-bad-spec =
     Inv-loop
     μ-loop
     loop-holds
-    first-bad-requires
     count-requires
+    first-bad-requires
     returns
     add-place
     loop-less

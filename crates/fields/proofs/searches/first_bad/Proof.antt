@@ -1,9 +1,8 @@
 -- `fields::searches::first_bad` meets its contract: the rows that the loop has passed are not bad. Assumes nothing.
 use Prim.Native.Nat.{_-_}
-use mathlib.Core.Path.{_≡_, sym, ap, _∙_}
+use mathlib.Core.Path.{sym, _∙_}
 use lib.IntN.{ℤ}
 use borrow.Author.Needs.{needs}
-use Rattle.theory.specs.Search.{first}
 use Rattle.theory.proofs.Search.{Passed, passed-none, passed-more, first-found, first-none}
 use Rattle.program.specs.Tables.{tablesIn}
 use Rattle.fields.specs.Rows.{rowBad}
@@ -16,9 +15,6 @@ Inv-loop tables place n row₀ row = (start : ℤ) → Passed (rowBad (tablesIn 
 abbrev μ-loop : tie.MeasureT-loop
 μ-loop tables place n row₀ row = n - row
 
-count-requires : tie.Need-count-requires Inv-loop μ-loop
-count-requires c κs = search needs
-
 loop-holds : tie.Need-loop-holds Inv-loop μ-loop
 loop-holds c start = passed-none _ _
 
@@ -30,7 +26,6 @@ returns c start =
     first-found _ _ _
     (c .before .before .before .loop .inv start) (c .before .before .loop-test .taken)
     (sym (c .before .row-bad .ensures start) ∙ c .if1 .taken)
-    ∙ ap (first _) (c .before .before .before .before .count .ensures start)
 
 add-row : tie.Need-add-row Inv-loop μ-loop
 add-row c = search needs
@@ -45,9 +40,7 @@ loop-again c start =
     (sym (c .before .row-bad .ensures start) ∙ c .if1 .left)
 
 returns-2 : tie.Need-returns-2 Inv-loop μ-loop
-returns-2 c start =
-    first-none _ _ _ (c .before .loop .inv start) (c .loop-test .left)
-    ∙ ap (first _) (c .before .before .count .ensures start)
+returns-2 c start = first-none _ _ _ (c .before .loop .inv start) (c .loop-test .left)
 
 pub first-bad-spec : {M : Type 1} → statement M
 first-bad-spec =
@@ -55,7 +48,6 @@ first-bad-spec =
     (tie.spec
     Inv-loop
     μ-loop
-    count-requires
     loop-holds
     row-bad-requires
     returns
