@@ -16,8 +16,8 @@ use Rattle.machine.specs.Advance.{Advance, advanceRules, advanceAnswer}
 use Rattle.machine.specs.Comes.{Faults, TimeWrong, Overruns, RunsOn, Collides, Returns}
 use Rattle.machine.specs.Moves.{Advances}
 
--- "One instruction is three unsigned 32-bit words, unused words 0": of lent code, instruction i is o exactly where its three words are
--- those of o. All else is faulty
+-- "One instruction is three unsigned 32-bit words, unused words 0": of lent code, instruction i is o exactly where its three words are those
+-- of o. All else is faulty
 abbrev pub WordsExact : Type 0
 WordsExact =
     (code : List ℕ) (i : ℕ) → i < length code / wordsEach → (o : Op) → (o ≡ faulty → ⊥)

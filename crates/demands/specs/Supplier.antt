@@ -95,8 +95,7 @@ pub record Window : Type 0 where
   pub to : ℕ
 
 abbrev pub ownWindows : List ℤ → ℕ → List Window
-ownWindows W s =
-    those (λ i. eqb (winSupplier W i) s) (λ i. record { mode = winMode W i; from = winFrom W i; to = winTo W i }) (windowCount W) 0
+ownWindows W s = those (λ i. eqb (winSupplier W i) s) (λ i. record { mode = winMode W i; from = winFrom W i; to = winTo W i }) (windowCount W) 0
 
 -- The verdict, place included, is the same when only other suppliers' worst-case times and windows change, both passing 1 to 12
 abbrev pub Independent : Type 0

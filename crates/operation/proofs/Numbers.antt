@@ -5,17 +5,14 @@ use mathlib.Core.Path.{_≡_, sym, ap, _∙_}
 use mathlib.Core.Bool.{true, false}
 use mathlib.Core.List.{List, [], _∷_, _++_, map}
 use native.Mathlib.Omega.{arith}
-use lib.IntN.{ℤ}
 use lib.ListN.{length}
-use denote.Ref.{RefT}
 use Rattle.theory.specs.Verdict.{acceptedNumber, Refusal, orElse, within, after}
 use Rattle.theory.proofs.Bools.{bars-iff}
 use Rattle.theory.proofs.Conditions.{or-else-yes, or-else-no}
 use Rattle.theory.proofs.Verdict.{after-given, verdict-clear, verdict-both}
 use Rattle.cells.specs.Limits.{maxCode, wordsEach}
 use Rattle.cells.specs.Refusals.{shapeRefused, scheduleRefused, stateRefused}
-use Rattle.program.specs.Tables.{tablesIn}
-use Rattle.rules.specs.Shape.{shapeBad, InShape}
+use Rattle.rules.specs.Shape.{shapeBad}
 use Rattle.rules.specs.Verdict.{tableRefusals}
 use Rattle.rules.proofs.Shape.{shape-bars, whole-few}
 use Rattle.code.specs.Compile.{longRefusal}
@@ -25,11 +22,6 @@ use Rattle.suppliers.specs.Schedule.{joinedBad, Rows}
 use Rattle.suppliers.proofs.Schedule.{joined-bars}
 use Rattle.machine.specs.Advance.{Advance, advanceShapeBad, stateBad, StateFits, runRefusals, advanceRefusals, advanceVerdict}
 use Rattle.machine.proofs.Fits.{advance-shape-bars, state-bars}
-
--- tables that have their shape with one start mode have it with any
-pub any-start : (lent : List (RefT (List ℤ))) (start : ℤ) → shapeBad (tablesIn lent start) ≡ false → InShape lent
-unfolding shapeBad
-any-start lent start e z = e
 
 -- 1, then 2 to 11 of the tables, then 13 and 21
 advance-number : (L : Advance)

@@ -2,15 +2,18 @@
 -- Assumes nothing.
 use Prim.Native.Nat.{ℕ, _/_, _%_, _≤_}
 use mathlib.Core.Path.{_≡_, ap, _∙_}
+use mathlib.Core.Bool.{false}
 use mathlib.Core.List.{List}
 use native.Mathlib.Nat.{div-add-mod', mul-mod-left, div-le-of-le-mul, mul-comm}
 use native.Mathlib.Omega.{arith}
+use lib.IntN.{ℤ}
 use lib.ListN.{length}
+use denote.Ref.{RefT}
 use Rattle.theory.specs.Claim.{Bars}
 use Rattle.theory.proofs.Bools.{says-eq, bars-not, bars-as, bars-says, _or_, bars-lt}
 use Rattle.cells.specs.Limits.{maxPorts, maxTasks}
-use Rattle.program.specs.Tables.{Tables, portWidth, portCount, taskWidth, taskCount, modeCount}
-use Rattle.rules.specs.Shape.{badSlice, badLength, WholeRows, shapeBad, Shaped}
+use Rattle.program.specs.Tables.{Tables, tablesIn, portWidth, portCount, taskWidth, taskCount, modeCount}
+use Rattle.rules.specs.Shape.{badSlice, badLength, WholeRows, shapeBad, Shaped, InShape}
 
 -- whole rows within the limit are no more rows than it
 pub whole-few : {A : Type 0} (width limit : ℕ) (t : List A) → WholeRows width limit t → length t / width ≤ limit
@@ -70,3 +73,8 @@ ports-few T s = whole-few portWidth maxPorts (T .ports) (s .ports)
 -- no more tasks than the limit
 pub tasks-few : (T : Tables) → Shaped T → taskCount T ≤ maxTasks
 tasks-few T s = whole-few taskWidth maxTasks (T .tasks) (s .tasks)
+
+-- the start mode has no part in number 1: tables that have their shape with one have it with any
+pub any-start : (lent : List (RefT (List ℤ))) (start : ℤ) → shapeBad (tablesIn lent start) ≡ false → InShape lent
+unfolding shapeBad
+any-start lent start e z = e

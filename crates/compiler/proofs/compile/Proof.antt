@@ -6,8 +6,8 @@ use Rattle.theory.specs.Verdict.{acceptedNumber}
 use Rattle.cells.specs.Cell.{nameOf, indexOf}
 use Rattle.cells.proofs.Ints.{back}
 use Rattle.program.specs.Tables.{Tables, tablesIn}
-use Rattle.rules.specs.Shape.{shapeBad}
 use Rattle.rules.specs.Verdict.{programVerdict}
+use Rattle.rules.proofs.Shape.{any-start}
 use Rattle.rules.proofs.Accepted.{accepted-clear, accepted-fields}
 use Rattle.compiler.specs.Listed.{Outcome, compiling}
 use Rattle.compiler.proofs.Outcomes.{compiled-refused, compiled-listed}
@@ -38,13 +38,12 @@ index-requires c κs = search needs
 of-requires : tie.Need-of-requires
 of-requires c κs = search needs
 
--- the start mode has no part in the shape
 listed-requires : tie.Need-listed-requires
-unfolding shapeBad
 listed-requires c κs =
     let e = c .before .before .before .before in
-    let T = lent (e .before .before .before) in
-    (λ start. accepted-clear T (passed e) .0, λ m l. accepted-fields T (passed e) .modes m l .1)
+    let s = e .before .before .before in
+    let clear = accepted-clear (lent s) (passed e) .0 in
+    (any-start (s .args .tables .now) (s .args .program .start) clear, λ m l. accepted-fields (lent s) (passed e) .modes m l .1)
 
 same-length : tie.Need-same-length
 same-length c = search needs

@@ -6,8 +6,9 @@ use Rattle.theory.specs.Verdict.{acceptedNumber}
 use Rattle.program.specs.Tables.{tablesIn}
 use Rattle.machine.specs.Advance.{Advance, advanceVerdict}
 use Rattle.machine.proofs.Answered.{advance-refused, advance-steps}
+use Rattle.rules.proofs.Shape.{any-start}
 use Rattle.operation.specs.Lent.{lent, advancing}
-use Rattle.operation.proofs.Numbers.{any-start, runs-shaped, runs-few, runs-rows, runs-state}
+use Rattle.operation.proofs.Numbers.{runs-shaped, runs-few, runs-rows, runs-state}
 use Rattle.operation.proofs.advance.Statement.{statement}
 use Rattle.operation.proofs.advance.Tie as tie
 

@@ -8,12 +8,13 @@ use Rattle.theory.proofs.Conditions.{or-else-yes, or-else-no}
 use Rattle.cells.specs.Refusals.{scheduleRefused, stateRefused}
 use Rattle.program.specs.Tables.{tablesIn}
 use Rattle.rules.specs.Shape.{InShape}
+use Rattle.rules.proofs.Shape.{any-start}
 use Rattle.lent.specs.Tables.{lentVerdict}
 use Rattle.lent.proofs.Asked.{lent-none}
 use Rattle.suppliers.specs.Schedule.{joinedBad}
 use Rattle.machine.specs.Advance.{Advance, advanceShapeBad, stateBad, advanceVerdict}
 use Rattle.operation.specs.Lent.{lent, advancing}
-use Rattle.operation.proofs.Numbers.{any-start, advance-one, advance-shaped, advance-given, advance-own}
+use Rattle.operation.proofs.Numbers.{advance-one, advance-shaped, advance-given, advance-own}
 use Rattle.operation.proofs.judged.number.Statement.{statement}
 use Rattle.operation.proofs.judged.number.Tie as tie
 
