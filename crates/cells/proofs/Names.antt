@@ -1,6 +1,6 @@
 -- Numbers that name rows: which numbers of a table do, and which name what.
 -- Assumes nothing.
-use Prim.Native.Nat.{ℕ, _<_, _≤_}
+use Prim.Native.Nat.{ℕ, suc, _+_, _<_, _≤_}
 use mathlib.Core.Path.{_≡_, refl, ap}
 use mathlib.Core.Bool.{Bool, true, false}
 use mathlib.Core.List.{List}
@@ -24,6 +24,14 @@ index-below (negsuc n) k h = (λ l. absurd (omega arith), λ r. clash {b = false
 pub name-small : (n : ℕ) → n < unnamed → nameOf n ≡ n
 unfolding nameOf
 name-small n h = simp (lt-ltb n unnamed h)
+
+-- the number after a name, as it is added
+pub plus-one : (n : ℕ) → n + 1 ≡ suc n
+plus-one n = omega arith
+
+-- below some rows that a kind can name, the name after a name is the number after it
+pub next-name : (n : ℕ) {k : ℕ} → n < k → k < unnamed → nameOf (suc n) ≡ suc n
+next-name n l h = name-small (suc n) (omega arith)
 
 -- any other number names unnamed
 pub name-unnamed : (n : ℕ) → unnamed ≤ n → nameOf n ≡ unnamed

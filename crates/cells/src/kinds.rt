@@ -1,8 +1,10 @@
-// The four kinds of number: a driver number never indexes the task table.
+// The four kinds of number: a driver number never indexes the task table. What a kind's number is, only this crate can ask.
+ghost use Prim.Native.Nat.{suc};
 ghost use mathlib.Core.Path.{_≡_};
+ghost use lib.Dec.{eqb};
 ghost use Rattle.cells.specs.Cell.{nameOf};
 
-// Names nothing: every table has fewer rows.
+// A number that names nothing: every table has fewer rows.
 pub const UNNAMED: usize = 255;
 
 pub struct Port(pub u8);
@@ -24,6 +26,7 @@ pub fn name(n: usize) -> u8
 }
 
 impl Port {
+    // The port of this number; it names nothing where the number is too large for a table.
     pub fn of(n: usize) -> Port
         ensures { λ r. ⌜ r .0 ≡ nameOf n ⌝ }
     {
@@ -35,9 +38,31 @@ impl Port {
     {
         self.0 as usize
     }
+
+    // The number as a word, to be written or printed; no table is read by a word.
+    pub fn word(self) -> u32
+        ensures { λ r. ⌜ r ≡ self .0 ⌝ }
+    {
+        self.0 as u32
+    }
+
+    // Both are the same port.
+    pub fn is(self, other: Port) -> bool
+        ensures { λ r. ⌜ r ≡ eqb (self .0) (other .0) ⌝ }
+    {
+        self.0 == other.0
+    }
+
+    // The port of the next number, in table order.
+    pub fn next(self) -> Port
+        ensures { λ r. ⌜ r .0 ≡ nameOf (suc (self .0)) ⌝ }
+    {
+        Port(name(self.0 as usize + 1))
+    }
 }
 
 impl Task {
+    // The task of this number; it names nothing where the number is too large for a table.
     pub fn of(n: usize) -> Task
         ensures { λ r. ⌜ r .0 ≡ nameOf n ⌝ }
     {
@@ -49,9 +74,31 @@ impl Task {
     {
         self.0 as usize
     }
+
+    // The number as a word, to be written or printed; no table is read by a word.
+    pub fn word(self) -> u32
+        ensures { λ r. ⌜ r ≡ self .0 ⌝ }
+    {
+        self.0 as u32
+    }
+
+    // Both are the same task.
+    pub fn is(self, other: Task) -> bool
+        ensures { λ r. ⌜ r ≡ eqb (self .0) (other .0) ⌝ }
+    {
+        self.0 == other.0
+    }
+
+    // The task of the next number, in table order.
+    pub fn next(self) -> Task
+        ensures { λ r. ⌜ r .0 ≡ nameOf (suc (self .0)) ⌝ }
+    {
+        Task(name(self.0 as usize + 1))
+    }
 }
 
 impl Driver {
+    // The driver of this number; it names nothing where the number is too large for a table.
     pub fn of(n: usize) -> Driver
         ensures { λ r. ⌜ r .0 ≡ nameOf n ⌝ }
     {
@@ -63,9 +110,24 @@ impl Driver {
     {
         self.0 as usize
     }
+
+    // The number as a word, to be written or printed; no table is read by a word.
+    pub fn word(self) -> u32
+        ensures { λ r. ⌜ r ≡ self .0 ⌝ }
+    {
+        self.0 as u32
+    }
+
+    // Both are the same driver.
+    pub fn is(self, other: Driver) -> bool
+        ensures { λ r. ⌜ r ≡ eqb (self .0) (other .0) ⌝ }
+    {
+        self.0 == other.0
+    }
 }
 
 impl Mode {
+    // The mode of this number; it names nothing where the number is too large for a table.
     pub fn of(n: usize) -> Mode
         ensures { λ r. ⌜ r .0 ≡ nameOf n ⌝ }
     {
@@ -76,5 +138,26 @@ impl Mode {
         ensures { λ r. ⌜ r ≡ self .0 ⌝ }
     {
         self.0 as usize
+    }
+
+    // The number as a word, to be written or printed; no table is read by a word.
+    pub fn word(self) -> u32
+        ensures { λ r. ⌜ r ≡ self .0 ⌝ }
+    {
+        self.0 as u32
+    }
+
+    // Both are the same mode.
+    pub fn is(self, other: Mode) -> bool
+        ensures { λ r. ⌜ r ≡ eqb (self .0) (other .0) ⌝ }
+    {
+        self.0 == other.0
+    }
+
+    // The mode of the next number, in table order.
+    pub fn next(self) -> Mode
+        ensures { λ r. ⌜ r .0 ≡ nameOf (suc (self .0)) ⌝ }
+    {
+        Mode(name(self.0 as usize + 1))
     }
 }

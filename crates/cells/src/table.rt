@@ -1,7 +1,7 @@
 // Total access to a lent table by place, and by row and column. Past the end stands 0.
 ghost use mathlib.Core.Path.{_≡_};
 ghost use Prim.Native.Nat.{_≤_};
-ghost use lib.ListN.{set};
+ghost use lib.ListN.{getD, set};
 ghost use Rattle.cells.specs.Cell.{Column, cellAt, indexOf, numAt, wordAt, greatestWord, fieldAt, namedAt, valueAt};
 use crate::kinds::Driver;
 use crate::kinds::Mode;
@@ -67,6 +67,25 @@ pub fn put_value(t: &mut [i32], at: usize, v: i32)
 {
     if at < t.len() {
         t[at] = v;
+    }
+}
+
+// A count at a place; past the end stands 0.
+pub(crate) fn count(list: &[usize], at: usize) -> usize
+    ensures { λ r. ⌜ r ≡ getD (now (list .entry)) at 0 ⌝ }
+{
+    if at < list.len() {
+        return list[at];
+    }
+    0
+}
+
+// A count put at a place; past the end nothing is.
+pub(crate) fn put_count(list: &mut [usize], at: usize, n: usize)
+    ensures { λ _. ⌜ now (list .exit) ≡ set (now (list .entry)) at n ⌝ }
+{
+    if at < list.len() {
+        list[at] = n;
     }
 }
 

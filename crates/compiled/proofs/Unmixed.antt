@@ -11,7 +11,7 @@ use lib.Dec.{eqb}
 use borrow.Author.Tests.{eqb-false}
 use Rattle.theory.specs.Verdict.{acceptedNumber}
 use Rattle.theory.proofs.Members.{has-map}
-use Rattle.program.specs.Tables.{Tables, sensor, actuator, input, output, driverCount, guardKind, guardPort, guardLow, guardHigh, kindAlways, kindInterval, modeCount, invDriver, updDriver}
+use Rattle.program.specs.Tables.{Tables, sensor, actuator, input, output, driverCount, guardKind, guardPort, guardLow, guardHigh, kindAlways, kindInterval, modeCount, invocationDriver, updateDriver}
 use Rattle.program.specs.Guard.{always, interval, guardOf}
 use Rattle.program.specs.Sets.{OfKind, ModePort, Source, Destination}
 use Rattle.program.specs.Program.{Driver, Invocation, Update, driverRow, programOf, driver, mode, dueInvocations, dueUpdates}
@@ -68,13 +68,13 @@ module _ (T : Tables) where
         written =
             let h = has-map (λ D. Writes D p) (λ (r : Update). driver (programOf T) (r .driver)) (dueUpdates (mode (programOf T) m) k) .0 w in
             let (i, b, o, d, q) = has-updates T m k l (λ r. Writes (driver (programOf T) (r .driver)) p) .0 h in
-            accepted-updates T a .destinations i p b (writes-row (updDriver T i) p (f .updates i b .driver) q)
+            accepted-updates T a .destinations i p b (writes-row (updateDriver T i) p (f .updates i b .driver) q)
 
         read : OfKind T output p
         read =
             let h = has-map (λ D. Reads D p) (λ (r : Update). driver (programOf T) (r .driver)) (dueUpdates (mode (programOf T) m) k) .0 r in
             let (i, b, o, d, q) = has-updates T m k l (λ r. Reads (driver (programOf T) (r .driver)) p) .0 h in
-            mode-output (accepted-mode-ports T a) _ p (accepted-updates T a .sources i p b (reads-row f (updDriver T i) p (f .updates i b .driver) q))
+            mode-output (accepted-mode-ports T a) _ p (accepted-updates T a .sources i p b (reads-row f (updateDriver T i) p (f .updates i b .driver) q))
 
     -- nor does one of a due invocation
     pub invocations-unmixed : Unmixed (map (λ (r : Invocation). driver (programOf T) (r .driver)) (dueInvocations (mode (programOf T) m) k))
@@ -89,11 +89,11 @@ module _ (T : Tables) where
         written =
             let h = has-map (λ D. Writes D p) (λ (r : Invocation). driver (programOf T) (r .driver)) (dueInvocations (mode (programOf T) m) k) .0 w in
             let (i, b, o, d, q) = has-invocations T m k l (λ r. Writes (driver (programOf T) (r .driver)) p) .0 h in
-            accepted-invocations T a .each i b .destinations p .0 (writes-row (invDriver T i) p (f .invocations i b .driver) q) .0
+            accepted-invocations T a .each i b .destinations p .0 (writes-row (invocationDriver T i) p (f .invocations i b .driver) q) .0
 
         read : OfKind T output p ⊎ OfKind T sensor p
         read =
             let h = has-map (λ D. Reads D p) (λ (r : Invocation). driver (programOf T) (r .driver)) (dueInvocations (mode (programOf T) m) k) .0 r in
             let (i, b, o, d, q) = has-invocations T m k l (λ r. Reads (driver (programOf T) (r .driver)) p) .0 h in
             ⊎-elim (λ s. inl (mode-output (accepted-mode-ports T a) _ p s)) (λ s. inr s)
-            (accepted-invocations T a .each i b .sources p (reads-row f (invDriver T i) p (f .invocations i b .driver) q))
+            (accepted-invocations T a .each i b .sources p (reads-row f (invocationDriver T i) p (f .invocations i b .driver) q))

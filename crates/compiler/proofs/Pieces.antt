@@ -9,7 +9,7 @@ use lib.ListN.{getD}
 use Rattle.theory.specs.Lists.{Every}
 use Rattle.theory.proofs.Lists.{map-those}
 use Rattle.cells.specs.Cell.{rowsIn, namedAt}
-use Rattle.program.specs.Tables.{Tables, portWidth, invocationWidth, updateWidth, invTask, updDriver}
+use Rattle.program.specs.Tables.{Tables, portWidth, invocationWidth, updateWidth, invocationTask, updateDriver}
 use Rattle.program.specs.Sets.{isSensor, sensorRows}
 use Rattle.program.specs.Program.{Program, Invocation, Update, Switch, invocationRow, updateRow, modeRow, programOf, dueInvocations, dueUpdates, dueSwitches, dueTasks}
 use Rattle.program.proofs.Decoded.{sensors-rows, due-invocations, due-updates, due-switches}
@@ -51,7 +51,7 @@ module _ (T : Tables) (m k : ℕ) where
       let n = rowsIn updateWidth (T .updates) in
       ap (λ (l : List Update). map three (map (λ (r : Update). callDriver (r .driver)) l)) (due-updates T m k)
       ∙ ap (map three) (map-those (λ (r : Update). callDriver (r .driver)) p (updateRow T) n 0)
-      ∙ map-those three p (λ i. callDriver (updDriver T i)) n 0
+      ∙ map-those three p (λ i. callDriver (updateDriver T i)) n 0
       ∙ sym (no-base updateWidth 2 0 (T .updates) when)
 
   -- of the sensors
@@ -65,7 +65,7 @@ module _ (T : Tables) (m k : ℕ) where
 
   -- of the due tasks, for each as the function says
   tasks-written : (f : ℕ → Op)
-      → map three (map f (dueTasks (modeRow T m) k)) ≡ dueAt invocationWidth (T .invocations) when (λ i. three (f (invTask T i)))
+      → map three (map f (dueTasks (modeRow T m) k)) ≡ dueAt invocationWidth (T .invocations) when (λ i. three (f (invocationTask T i)))
   tasks-written f =
       ap (map three) (map-map f (λ (r : Invocation). r .task) (dueInvocations (modeRow T m) k)) ∙ invocations-written (λ r. f (r .task))
 

@@ -13,7 +13,7 @@ use Rattle.theory.specs.Verdict.{acceptedNumber}
 use Rattle.theory.proofs.Bools.{is-true}
 use Rattle.theory.proofs.Due.{due-first, due-whole}
 use Rattle.theory.proofs.Members.{member-says}
-use Rattle.program.specs.Tables.{Tables, input, output, taskCount, modeCount, invFrequency, swFrequency}
+use Rattle.program.specs.Tables.{Tables, input, output, taskCount, modeCount, invocationFrequency, switchFrequency}
 use Rattle.program.specs.Sets.{OfKind, Input, Output, TaskPort}
 use Rattle.program.specs.Units.{units}
 use Rattle.program.specs.Program.{Switch, portsOf, programOf, task, mode, dueSwitches, dueTasks}
@@ -45,7 +45,7 @@ module _ (T : Tables) (a : programVerdict T ≡ acceptedNumber) where
       → member t (dueTasks (mode (programOf T) m) 0) ≡ true
   due-of-mode m k t l e =
       let (i, d, q) = enabled-says T m k t l .yes e in
-      is-true (enabled-says T m 0 t l) (i, record { in-table = d .in-table; of-mode = d .of-mode; is-due = due-first (units T m) (invFrequency T i) }, q)
+      is-true (enabled-says T m 0 t l) (i, record { in-table = d .in-table; of-mode = d .of-mode; is-due = due-first (units T m) (invocationFrequency T i) }, q)
 
   -- tasks of a mode that share an output are one
   pub tasks-one : (m t u p : ℕ) → m < modeCount T
@@ -71,7 +71,7 @@ module _ (T : Tables) (a : programVerdict T ≡ acceptedNumber) where
         record {
           in-table = d .in-table;
           of-mode = d .of-mode;
-          is-due = due-whole (units T m) (invFrequency T i) (swFrequency T (s .row)) k (f .0)
+          is-due = due-whole (units T m) (invocationFrequency T i) (switchFrequency T (s .row)) k (f .0)
               (div-mul-cancel _ (all _ (inl (i, d .in-table, (d .of-mode, refl)))))
               (div-mul-cancel _ (all _ (inr (inr (s .row, s .enabled .in-table, (s .enabled .of-mode, refl))))))
               (div-mul-cancel _ whole)

@@ -11,7 +11,7 @@ use Rattle.theory.specs.Verdict.{acceptedNumber}
 use Rattle.theory.proofs.Bools.{is-false, says-eq, says-itself, _and_}
 use Rattle.theory.proofs.Lists.{every-those}
 use Rattle.theory.proofs.Members.{Has, member-says}
-use Rattle.program.specs.Tables.{Tables, modeCount, invocationWidth, invocationCount, invMode, invFrequency, invTask}
+use Rattle.program.specs.Tables.{Tables, modeCount, invocationWidth, invocationCount, invocationMode, invocationFrequency, invocationTask}
 use Rattle.program.specs.Units.{units, due, rowDue}
 use Rattle.program.specs.Program.{programOf, mode, dueTasks}
 use Rattle.program.proofs.Decoded.{due-task-rows}
@@ -46,13 +46,13 @@ those-once p row (suc n) i₀ h = go (p i₀) refl (those-once p row n (i₀ + 1
     go false e d = d
 
 -- a due row is one of its mode
-of-mode : (T : Tables) (m k i : ℕ) → rowDue invocationWidth (T .invocations) m (units T m) k i ≡ true → invMode T i ≡ m
+of-mode : (T : Tables) (m k i : ℕ) → rowDue invocationWidth (T .invocations) m (units T m) k i ≡ true → invocationMode T i ≡ m
 unfolding rowDue
-of-mode T m k i e = (says-eq (invMode T i) m and says-itself (due (units T m) (invFrequency T i) k)) .yes e .0
+of-mode T m k i e = (says-eq (invocationMode T i) m and says-itself (due (units T m) (invocationFrequency T i) k)) .yes e .0
 
 -- no task is due twice: rule 6 keeps a mode from naming one in two rows
 pub due-once : (T : Tables) → programVerdict T ≡ acceptedNumber → (m k : ℕ) → m < modeCount T → Distinct (dueTasks (mode (programOf T) m) k)
 due-once T a m k l =
     subst Distinct (sym (due-task-rows T m k l))
-    (those-once (rowDue invocationWidth (T .invocations) m (units T m) k) (invTask T) (invocationCount T) 0
+    (those-once (rowDue invocationWidth (T .invocations) m (units T m) k) (invocationTask T) (invocationCount T) 0
     (λ i j b u p q. accepted-invocations T a .tasks-apart j i b (omega arith) (of-mode T m k i p ∙ sym (of-mode T m k j q))))

@@ -12,7 +12,7 @@ use Rattle.theory.proofs.Bools.{iff}
 use Rattle.cells.specs.Cell.{eqZ}
 use Rattle.cells.specs.Limits.{maxPorts}
 use Rattle.cells.proofs.Ints.{eqZ-says}
-use Rattle.program.specs.Tables.{Tables, modeCount, modePeriod, swTarget, swDriver}
+use Rattle.program.specs.Tables.{Tables, modeCount, modePeriod, switchTarget, switchDriver}
 use Rattle.program.specs.Units.{units}
 use Rattle.program.specs.Program.{programOf}
 use Rattle.program.specs.Ports.{valueOf}
@@ -40,15 +40,15 @@ next-one {Writes} {w} {w′} n n′ = fun-ext (λ p. go p (eqZ (w p) (w′ p)) r
 
 module _ (T : Tables) (f : Fields T) (s : Switches T) (C : Configuration) where
   -- the guard of an enabled switch is one of values
-  sound : (v : Valuation) (i : ℕ) → SwitchEnabled T (C .mode) (C .unit) v i → Sound (guardOf T (swDriver T i))
-  sound v i a = guard-sound T f (swDriver T i) (f .switches i (a .in-table) .driver)
+  sound : (v : Valuation) (i : ℕ) → SwitchEnabled T (C .mode) (C .unit) v i → Sound (guardOf T (switchDriver T i))
+  sound v i a = guard-sound T f (switchDriver T i) (f .switches i (a .in-table) .driver)
 
   -- two enabled switches are one row
   switch-row : (v : Valuation) (i j : ℕ) → SwitchEnabled T (C .mode) (C .unit) v i → SwitchEnabled T (C .mode) (C .unit) v j → i ≡ j
   switch-row v i j a b =
       same-row i j
-      (λ l. s .apart j i l (b .in-table) (a .of-mode ∙ sym (b .of-mode)) (guards-meet T (swDriver T i) (swDriver T j) v (sound v i a) (sound v j b) (a .guard) (b .guard)))
-      (λ l. s .apart i j l (a .in-table) (b .of-mode ∙ sym (a .of-mode)) (guards-meet T (swDriver T j) (swDriver T i) v (sound v j b) (sound v i a) (b .guard) (a .guard)))
+      (λ l. s .apart j i l (b .in-table) (a .of-mode ∙ sym (b .of-mode)) (guards-meet T (switchDriver T i) (switchDriver T j) v (sound v i a) (sound v j b) (a .guard) (b .guard)))
+      (λ l. s .apart i j l (a .in-table) (b .of-mode ∙ sym (a .of-mode)) (guards-meet T (switchDriver T j) (switchDriver T i) v (sound v j b) (sound v i a) (b .guard) (a .guard)))
 
   -- steps 4 to 6 lead to one mode, one unit and the same values
   switch-one : (v w w′ : Valuation) (m m′ u u′ : ℕ) → Stays T C v w m u ⊎ Changes T C v w m u → Stays T C v w′ m′ u′ ⊎ Changes T C v w′ m′ u′
@@ -59,9 +59,9 @@ module _ (T : Tables) (f : Fields T) (s : Switches T) (C : Configuration) where
   switch-one v w w′ m m′ u u′ (inr a) (inl b) = absurd (b .none-enabled (a .row) (a .enabled))
   switch-one v w w′ m m′ u u′ (inr a) (inr b) =
       let e = switch-row v (a .row) (b .row) (a .enabled) (b .enabled) in (
-        a .to-target ∙ ap (swTarget T) e ∙ sym (b .to-target),
+        a .to-target ∙ ap (switchTarget T) e ∙ sym (b .to-target),
         a .to-unit-0 ∙ sym (b .to-unit-0),
-        next-one (a .mode-ports) (subst (λ i. Next (Drives T (swDriver T i) v) v w′) (sym e) (b .mode-ports)),
+        next-one (a .mode-ports) (subst (λ i. Next (Drives T (switchDriver T i) v) v w′) (sym e) (b .mode-ports)),
       )
 
   module _ (result : ℕ → ℕ → ℤ) (readings : Valuation) (C′ C″ : Configuration)

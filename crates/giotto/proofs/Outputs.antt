@@ -12,7 +12,7 @@ use Rattle.theory.specs.Lists.{gather, Put}
 use Rattle.theory.proofs.Members.{Has, has-keep, has-gather}
 use Rattle.theory.proofs.Puts.{Wrote, Assigns}
 use Rattle.cells.specs.Limits.{maxPorts}
-use Rattle.program.specs.Tables.{Tables, output, taskCount, modeCount, invTask}
+use Rattle.program.specs.Tables.{Tables, output, taskCount, modeCount, invocationTask}
 use Rattle.program.specs.Sets.{OfKind, Output}
 use Rattle.program.specs.Program.{taskRow, programOf, task, mode, dueTasks}
 use Rattle.program.specs.Ports.{valueOf, takes}
@@ -28,12 +28,12 @@ use Rattle.giotto.proofs.Steps.{next-puts, due-tasks, same-row}
 
 -- two tasks that are due together and share an output are one
 pub enabled-one : (T : Tables) → Invocations T → (m k t u p : ℕ) → Enabled T m k t → Enabled T m k u → Output T t p → Output T u p → t ≡ u
-enabled-one T v m k t u p a b o q = sym (a .2) ∙ ap (invTask T) rows ∙ b .2
+enabled-one T v m k t u p a b o q = sym (a .2) ∙ ap (invocationTask T) rows ∙ b .2
   where
-    of-a : Output T (invTask T (a .0)) p
+    of-a : Output T (invocationTask T (a .0)) p
     of-a = rw (a .2) o
 
-    of-b : Output T (invTask T (b .0)) p
+    of-b : Output T (invocationTask T (b .0)) p
     of-b = rw (b .2) q
 
     rows : a .0 ≡ b .0
@@ -49,7 +49,7 @@ module _ (T : Tables) (C : Configuration) where
   has-completed m Q =
       let s = has-keep Q (C .active) (dueTasks (mode (programOf T) (C .mode)) (C .unit)) in
       let r = due-tasks T (C .mode) (C .unit) m (λ t. (C .active t ≡ true) × Q t) in (
-        λ h. let w = r .0 (s .0 h) in (invTask T (w .0), (w .2 .0, (w .0, w .1, refl)), w .2 .1),
+        λ h. let w = r .0 (s .0 h) in (invocationTask T (w .0), (w .2 .0, (w .0, w .1, refl)), w .2 .1),
         λ w. s .1 (r .1 (w .1 .1 .0, w .1 .1 .1, subst (λ t. (C .active t ≡ true) × Q t) (sym (w .1 .1 .2)) (w .1 .0, w .2))),
       )
 

@@ -10,7 +10,7 @@ use lib.ListN.{length}
 use Rattle.theory.specs.Lists.{Put, puts}
 use Rattle.theory.proofs.Members.{Has}
 use Rattle.theory.proofs.Puts.{Assigns, puts-written, puts-kept}
-use Rattle.program.specs.Tables.{Tables, modeCount, invocationCount, invMode, invFrequency, invTask}
+use Rattle.program.specs.Tables.{Tables, modeCount, invocationCount, invocationMode, invocationFrequency, invocationTask}
 use Rattle.program.specs.Program.{Invocation, invocationRow, programOf, mode, dueInvocations, dueTasks}
 use Rattle.program.specs.Ports.{valueOf}
 use Rattle.program.proofs.Decoded.{DueRow, has-invocations, has-tasks}
@@ -26,7 +26,7 @@ next-puts v e a = record { written = puts-written (pos 0) v a e; kept = puts-kep
 
 module _ (T : Tables) (m k : ℕ) where
   -- a due row of the invocations, in 001's words
-  as-due : (Q : ℕ → Type 0) → DueRow T (invocationCount T) (invMode T) (invFrequency T) m k Q ↔ ((i : ℕ) × InvocationDue T m k i × Q i)
+  as-due : (Q : ℕ → Type 0) → DueRow T (invocationCount T) (invocationMode T) (invocationFrequency T) m k Q ↔ ((i : ℕ) × InvocationDue T m k i × Q i)
   as-due Q = (
     λ w. (w .0, record { in-table = w .1; of-mode = w .2; is-due = w .3 }, w .4),
     λ w. (w .0, w .1 .in-table, w .1 .of-mode, w .1 .is-due, w .2),
@@ -39,5 +39,5 @@ module _ (T : Tables) (m k : ℕ) where
 
   -- some task of a mode that is due
   pub due-tasks : m < modeCount T → (Q : ℕ → Type 0)
-      → Has Q (dueTasks (mode (programOf T) m) k) ↔ ((i : ℕ) × InvocationDue T m k i × Q (invTask T i))
-  due-tasks l Q = Iff·trans (has-tasks T m k l Q) (as-due (λ i. Q (invTask T i)))
+      → Has Q (dueTasks (mode (programOf T) m) k) ↔ ((i : ℕ) × InvocationDue T m k i × Q (invocationTask T i))
+  due-tasks l Q = Iff·trans (has-tasks T m k l Q) (as-due (λ i. Q (invocationTask T i)))

@@ -12,7 +12,7 @@ use lib.ListN.{length}
 use Rattle.theory.proofs.Bools.{clash}
 use Rattle.theory.proofs.Members.{Has}
 use Rattle.cells.specs.Limits.{maxPorts}
-use Rattle.program.specs.Tables.{Tables, driverCount, modeCount, swDriver}
+use Rattle.program.specs.Tables.{Tables, driverCount, modeCount, switchDriver}
 use Rattle.program.specs.Guard.{guardOf, holds}
 use Rattle.program.specs.Program.{Driver, Switch, Program, switchRow, programOf, driver, mode, dueSwitches}
 use Rattle.program.specs.Ports.{valueOf, drive}
@@ -70,7 +70,7 @@ module _ (T : Tables) (C : Configuration) (v : List ℤ) where
           none-enabled = λ i s.
               taken-none (programOf T) v (dueSwitches (mode (programOf T) (C .mode)) (C .unit)) e
               (has-switches T (C .mode) (C .unit) m (Open (programOf T) v) .1
-              (i, s .in-table, s .of-mode, s .is-due, guard-row (swDriver T i) (f .switches i (s .in-table) .driver) ∙ s .guard));
+              (i, s .in-table, s .of-mode, s .is-due, guard-row (switchDriver T i) (f .switches i (s .in-table) .driver) ∙ s .guard));
           same-mode = refl;
           same-unit = refl;
           same-ports = λ p. refl;
@@ -88,7 +88,7 @@ module _ (T : Tables) (C : Configuration) (v : List ℤ) where
                 in-table = r .1;
                 of-mode = r .2;
                 is-due = r .3;
-                guard = sym (guard-row (swDriver T (r .0)) (f .switches (r .0) (r .1) .driver)) ∙ r .4 .1;
+                guard = sym (guard-row (switchDriver T (r .0)) (f .switches (r .0) (r .1) .driver)) ∙ r .4 .1;
               };
           is-row = r .4 .0;
         }
@@ -112,5 +112,5 @@ module _ (T : Tables) (C : Configuration) (v : List ℤ) where
           enabled = t .enabled;
           to-target = refl;
           to-unit-0 = refl;
-          mode-ports = next-puts v l (moves-assign T s f k v (swDriver T (t .row)) (f .switches (t .row) (t .enabled .in-table) .driver) (t .enabled .guard));
+          mode-ports = next-puts v l (moves-assign T s f k v (switchDriver T (t .row)) (f .switches (t .row) (t .enabled .in-table) .driver) (t .enabled .guard));
         })

@@ -12,7 +12,7 @@ use Rattle.theory.proofs.Bools.{is-true}
 use Rattle.theory.proofs.Members.{has-those}
 use Rattle.theory.proofs.Puts.{Wrote, Assigns}
 use Rattle.cells.specs.Limits.{maxPorts}
-use Rattle.program.specs.Tables.{Tables, portCount, sensor, modeCount, updDriver}
+use Rattle.program.specs.Tables.{Tables, portCount, sensor, modeCount, updateDriver}
 use Rattle.program.specs.Sets.{isKind, Sensor, Destination}
 use Rattle.program.specs.Program.{Update, programOf, driver, mode, dueUpdates}
 use Rattle.program.specs.Ports.{valueOf, moves, takes}
@@ -36,7 +36,7 @@ module _ (T : Tables) (C : Configuration) where
 
   -- two enabled updates that drive one port are one row
   update-row : Updates T → {v : Valuation} → (i j p : ℕ) → UpdateEnabled T (C .mode) (C .unit) v i → UpdateEnabled T (C .mode) (C .unit) v j
-      → Destination T (updDriver T i) p → Destination T (updDriver T j) p → i ≡ j
+      → Destination T (updateDriver T i) p → Destination T (updateDriver T j) p → i ≡ j
   update-row u i j p a b c d =
       same-row i j
       (λ l. u .apart j i p l (b .in-table) (a .of-mode ∙ sym (b .of-mode)) d c)
@@ -49,14 +49,14 @@ module _ (T : Tables) (C : Configuration) where
       let r = has-updates T (C .mode) (C .unit) m (λ r. Wrote (moves v (driver (programOf T) (r .driver))) p x) in (
         λ h.
             let w = r .0 (s .0 h) in
-            let o = wrote-driver T v (updDriver T (w .0)) p x (f .updates (w .0) (w .1) .driver) .0 (w .4) in
+            let o = wrote-driver T v (updateDriver T (w .0)) p x (f .updates (w .0) (w .1) .driver) .0 (w .4) in
             (w .0, record { in-table = w .1; of-mode = w .2; is-due = w .3; guard = o .0 }, o .1),
         λ w. s .1 (r .1 (
           w .0,
           w .1 .in-table,
           w .1 .of-mode,
           w .1 .is-due,
-          wrote-driver T v (updDriver T (w .0)) p x (f .updates (w .0) (w .1 .in-table) .driver) .1 (w .1 .guard, w .2),
+          wrote-driver T v (updateDriver T (w .0)) p x (f .updates (w .0) (w .1 .in-table) .driver) .1 (w .1 .guard, w .2),
         )),
       )
 
@@ -64,7 +64,7 @@ module _ (T : Tables) (C : Configuration) where
   pub updates-next : Shaped T → Fields T → Copies T → Updates T → C .mode < modeCount T → (v : List ℤ) → length v ≡ maxPorts
       → Next (UpdateWrites T C (valueOf v)) (valueOf v) (valueOf (afterUpdates (programOf T) (mode (programOf T) (C .mode)) (C .unit) v))
   updates-next s f k u m v e =
-      next-puts v e (rows-assign T (updDriver T) (updatePuts v) (valueOf v) s f k (updates-wrote f m v) (update-row u))
+      next-puts v e (rows-assign T (updateDriver T) (updatePuts v) (valueOf v) s f k (updates-wrote f m v) (update-row u))
 
 module _ (T : Tables) where
   -- the assignments are the writes

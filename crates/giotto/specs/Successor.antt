@@ -7,9 +7,9 @@ use mathlib.Core.Path.{_≡_}
 use mathlib.Core.Bool.{true}
 use mathlib.Core.Logic.{_⊎_, _↔_}
 use lib.IntN.{ℤ}
-use Rattle.program.specs.Tables.{Tables, copyCount, copyDriver, copySource, copyDestination, invocationCount, invMode, invFrequency}
-use Rattle.program.specs.Tables.{invTask, invDriver, updateCount, updMode, updFrequency, updDriver, switchCount, swMode, swFrequency}
-use Rattle.program.specs.Tables.{swTarget, swDriver, modePeriod}
+use Rattle.program.specs.Tables.{Tables, copyCount, copyDriver, copySource, copyDestination, invocationCount, invocationMode, invocationFrequency}
+use Rattle.program.specs.Tables.{invocationTask, invocationDriver, updateCount, updateMode, updateFrequency, updateDriver, switchCount, switchMode, switchFrequency}
+use Rattle.program.specs.Tables.{switchTarget, switchDriver, modePeriod}
 use Rattle.program.specs.Guard.{guardOf, holds}
 use Rattle.program.specs.Sets.{Sensor, Output}
 use Rattle.program.specs.Units.{units, due}
@@ -33,29 +33,29 @@ module _ (T : Tables) where
   -- row i is of mode m, and due at unit u: u · ω / ωmax is whole
   pub record InvocationDue (m u i : ℕ) : Type 0 where
     pub in-table : i < invocationCount T
-    pub of-mode : invMode T i ≡ m
-    pub is-due : due (units T m) (invFrequency T i) u ≡ true
+    pub of-mode : invocationMode T i ≡ m
+    pub is-due : due (units T m) (invocationFrequency T i) u ≡ true
 
   -- an actuator update, a mode switch, is enabled at v
   pub record UpdateEnabled (m u : ℕ) (v : Valuation) (i : ℕ) : Type 0 where
     pub in-table : i < updateCount T
-    pub of-mode : updMode T i ≡ m
-    pub is-due : due (units T m) (updFrequency T i) u ≡ true
-    pub guard : holds (guardOf T (updDriver T i)) v ≡ true
+    pub of-mode : updateMode T i ≡ m
+    pub is-due : due (units T m) (updateFrequency T i) u ≡ true
+    pub guard : holds (guardOf T (updateDriver T i)) v ≡ true
 
   pub record SwitchEnabled (m u : ℕ) (v : Valuation) (i : ℕ) : Type 0 where
     pub in-table : i < switchCount T
-    pub of-mode : swMode T i ≡ m
-    pub is-due : due (units T m) (swFrequency T i) u ≡ true
-    pub guard : holds (guardOf T (swDriver T i)) v ≡ true
+    pub of-mode : switchMode T i ≡ m
+    pub is-due : due (units T m) (switchFrequency T i) u ≡ true
+    pub guard : holds (guardOf T (switchDriver T i)) v ≡ true
 
   -- task t is completed at C: it is active, and an invocation of it is due
   abbrev pub Completed : Configuration → ℕ → Type 0
-  Completed C t = (C .active t ≡ true) × ((i : ℕ) × InvocationDue (C .mode) (C .unit) i × (invTask T i ≡ t))
+  Completed C t = (C .active t ≡ true) × ((i : ℕ) × InvocationDue (C .mode) (C .unit) i × (invocationTask T i ≡ t))
 
   -- task t is enabled in mode m at unit u (every task driver's guard is always)
   abbrev pub Enabled : ℕ → ℕ → ℕ → Type 0
-  Enabled m u t = (i : ℕ) × InvocationDue m u i × (invTask T i ≡ t)
+  Enabled m u t = (i : ℕ) × InvocationDue m u i × (invocationTask T i ≡ t)
 
   -- 1. task output ports
   abbrev pub TaskWrites : (ℕ → ℕ → ℤ) → Configuration → ℕ → ℤ → Type 0
@@ -63,7 +63,7 @@ module _ (T : Tables) where
 
   -- 2. actuator ports
   abbrev pub UpdateWrites : Configuration → Valuation → ℕ → ℤ → Type 0
-  UpdateWrites C v p x = (i : ℕ) × UpdateEnabled (C .mode) (C .unit) v i × Drives T (updDriver T i) v p x
+  UpdateWrites C v p x = (i : ℕ) × UpdateEnabled (C .mode) (C .unit) v i × Drives T (updateDriver T i) v p x
 
   -- 3. sensor ports
   abbrev pub SensorWrites : Valuation → ℕ → ℤ → Type 0
@@ -79,13 +79,13 @@ module _ (T : Tables) where
   pub record Changes (C : Configuration) (v w : Valuation) (m u : ℕ) : Type 0 where
     pub row : ℕ
     pub enabled : SwitchEnabled (C .mode) (C .unit) v row
-    pub to-target : m ≡ swTarget T row
+    pub to-target : m ≡ switchTarget T row
     pub to-unit-0 : u ≡ 0
-    pub mode-ports : Next (Drives T (swDriver T row) v) v w
+    pub mode-ports : Next (Drives T (switchDriver T row) v) v w
 
   -- 7. task input ports
   abbrev pub InputWrites : ℕ → ℕ → Valuation → ℕ → ℤ → Type 0
-  InputWrites m u v p x = (i : ℕ) × InvocationDue m u i × Drives T (invDriver T i) v p x
+  InputWrites m u v p x = (i : ℕ) × InvocationDue m u i × Drives T (invocationDriver T i) v p x
 
 -- C′ succeeds C for these readings, where `result t p` is what a completed task t gives for port p
 pub record Successor (T : Tables) (result : ℕ → ℕ → ℤ) (readings : Valuation) (C C′ : Configuration) : Type 0 where

@@ -15,7 +15,7 @@ use Rattle.cells.specs.Cell.{nameOf, rowsIn, numAt, fieldAt}
 use Rattle.cells.specs.Limits.{maxTasks, maxDrivers}
 use Rattle.cells.specs.Refusals.{timeRefused, overrunRefused, faultyRefused}
 use Rattle.cells.proofs.Names.{name-small}
-use Rattle.program.specs.Tables.{Tables, taskWidth, taskTime, taskCount, driverWidth, driverCount}
+use Rattle.program.specs.Tables.{Tables, taskWidth, taskWorstColumn, taskCount, driverWidth, driverCount}
 use Rattle.program.specs.Guard.{Guard, guardOf, holds}
 use Rattle.program.specs.Program.{Task, Driver, Program, programOf, task, driver}
 use Rattle.program.specs.Ports.{valueOf}
@@ -85,7 +85,7 @@ module _ (T : Tables) (readings times : List ℤ) (n : ℕ) (a : At) {tasks : Li
   schedule-faulty h = unused-faulty (programOf T) readings times n a u (schedule t) (ap (λ (b : Bool). ltb 0 u || b) (task-past T t e) ∙ h)
 
   module _ (few : rowsIn taskWidth tasks ≤ maxTasks) (h : (ltb 0 u || leb (rowsIn taskWidth tasks) t) ≡ false)
-      (time worst : ℕ) (lent : time ≡ numAt times t) (most : worst ≡ fieldAt taskWidth taskTime tasks t) where
+      (time worst : ℕ) (lent : time ≡ numAt times t) (most : worst ≡ fieldAt taskWidth taskWorstColumn tasks t) where
     -- it is not faulty
     sound : isFaulty (programOf T) n (a .planned) (schedule t) ≡ false
     sound = task-past T t e ∙ neither (ltb 0 u) _ h .1
@@ -100,7 +100,7 @@ module _ (T : Tables) (readings times : List ℤ) (n : ℕ) (a : At) {tasks : Li
     in-range =
         let declared : t < taskCount T = subst (λ (rows : List ℤ). t < rowsIn taskWidth rows) (sym e) (schedule-declared (rowsIn taskWidth tasks) t u h) in
         let own : worst ≡ task (programOf T) t .worst =
-        most ∙ ap (λ (rows : List ℤ). fieldAt taskWidth taskTime rows t) (sym e) ∙ ap (λ (K : Task). K .worst) (sym (task-row T t declared)) in
+        most ∙ ap (λ (rows : List ℤ). fieldAt taskWidth taskWorstColumn rows t) (sym e) ∙ ap (λ (K : Task). K .worst) (sym (task-row T t declared)) in
         λ i. leb 1 (lent i) && leb (lent i) (own i)
 
     -- 16: it is not

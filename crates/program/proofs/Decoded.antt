@@ -15,7 +15,7 @@ use Rattle.theory.specs.Lists.{those, keep, member}
 use Rattle.theory.proofs.Bools.{clash, says-eq, is-true, _and_}
 use Rattle.theory.proofs.Lists.{each-length, each-at, every-each, every-at, keep-those, those-same, map-those}
 use Rattle.theory.proofs.Members.{Has, has-those, has-keep, has-map, member-says}
-use Rattle.program.specs.Tables.{Tables, portCount, output, taskCount, taskPortCount, tpTask, tpPort, driverCount, copyCount, copyDriver, modeCount, invocationWidth, invocationCount, invMode, invFrequency, invTask, updateWidth, updateCount, updMode, updFrequency, switchWidth, switchCount, swMode, swFrequency}
+use Rattle.program.specs.Tables.{Tables, portCount, output, taskCount, taskPortCount, taskPortTask, taskPortPort, driverCount, copyCount, copyDriver, modeCount, invocationWidth, invocationCount, invocationMode, invocationFrequency, invocationTask, updateWidth, updateCount, updateMode, updateFrequency, switchWidth, switchCount, switchMode, switchFrequency}
 use Rattle.program.specs.Sets.{isKind, OfKind, sensorRows}
 use Rattle.program.specs.Units.{units, due, rowDue, dueRows}
 use Rattle.program.specs.Program.{Copy, Task, Invocation, Update, Switch, Mode, copyRow, driverRow, portsOf, taskRow, invocationRow, updateRow, switchRow, modeRow, programOf, task, driver, mode, nextUnit, dueInvocations, dueUpdates, dueSwitches, dueTasks}
@@ -84,15 +84,15 @@ module _ (T : Tables) where
   -- some port of this kind of a task
   pub has-ports : (Q : ℕ → Type 0) (kind t : ℕ)
       → Has Q (portsOf T kind t)
-      ↔ ((k : ℕ) × (k < taskPortCount T) × ((tpTask T k ≡ t) × OfKind T kind (tpPort T k)) × Q (tpPort T k))
+      ↔ ((k : ℕ) × (k < taskPortCount T) × ((taskPortTask T k ≡ t) × OfKind T kind (taskPortPort T k)) × Q (taskPortPort T k))
   has-ports Q kind t =
-      let r = has-those Q (λ k. eqb (tpTask T k) t && isKind T kind (tpPort T k)) (tpPort T) (taskPortCount T) in (
+      let r = has-those Q (λ k. eqb (taskPortTask T k) t && isKind T kind (taskPortPort T k)) (taskPortPort T) (taskPortCount T) in (
         λ h. let w = r .0 h in (w .0, w .1, test (w .0) .yes (w .2), w .3),
         λ w. r .1 (w .0, w .1, is-true (test (w .0)) (w .2), w .3),
       )
     where
-      test : (k : ℕ) → Says (eqb (tpTask T k) t && isKind T kind (tpPort T k)) ((tpTask T k ≡ t) × OfKind T kind (tpPort T k))
-      test k = says-eq (tpTask T k) t and kind-says T kind (tpPort T k)
+      test : (k : ℕ) → Says (eqb (taskPortTask T k) t && isKind T kind (taskPortPort T k)) ((taskPortTask T k ≡ t) × OfKind T kind (taskPortPort T k))
+      test k = says-eq (taskPortTask T k) t and kind-says T kind (taskPortPort T k)
 
   -- an output of a task, of whatever number, is a declared output port
   pub output-declared : (t p : ℕ) → member p (task (programOf T) t .outputs) ≡ true → OfKind T output p
@@ -133,16 +133,16 @@ module _ (T : Tables) where
     -- some invocation of a mode that is due
     pub has-invocations : (Q : Invocation → Type 0)
         → Has Q (dueInvocations (mode (programOf T) m) k)
-        ↔ DueRow (invocationCount T) (invMode T) (invFrequency T) m k (λ i. Q (invocationRow T i))
-    has-invocations Q = rw (mode-row m l) (has-due Q (λ r. r .frequency) (invMode T) (invocationRow T) (invocationCount T) m k)
+        ↔ DueRow (invocationCount T) (invocationMode T) (invocationFrequency T) m k (λ i. Q (invocationRow T i))
+    has-invocations Q = rw (mode-row m l) (has-due Q (λ r. r .frequency) (invocationMode T) (invocationRow T) (invocationCount T) m k)
 
     -- some task of a mode that is due
     pub has-tasks : (Q : ℕ → Type 0)
-        → Has Q (dueTasks (mode (programOf T) m) k) ↔ DueRow (invocationCount T) (invMode T) (invFrequency T) m k (λ i. Q (invTask T i))
+        → Has Q (dueTasks (mode (programOf T) m) k) ↔ DueRow (invocationCount T) (invocationMode T) (invocationFrequency T) m k (λ i. Q (invocationTask T i))
     has-tasks Q = Iff·trans (has-map Q (λ r. r .task) (dueInvocations (mode (programOf T) m) k)) (has-invocations (λ r. Q (r .task)))
 
     -- the tasks of a mode that are due, by rows
-    pub due-task-rows : dueTasks (mode (programOf T) m) k ≡ those (rowDue invocationWidth (T .invocations) m (units T m) k) (invTask T) (invocationCount T) 0
+    pub due-task-rows : dueTasks (mode (programOf T) m) k ≡ those (rowDue invocationWidth (T .invocations) m (units T m) k) (invocationTask T) (invocationCount T) 0
     due-task-rows =
         ap (λ (M : Mode). dueTasks M k) (mode-row m l)
         ∙ ap (map (λ (r : Invocation). r .task)) (due-invocations m k)
@@ -150,10 +150,10 @@ module _ (T : Tables) where
 
     -- some update of a mode that is due
     pub has-updates : (Q : Update → Type 0)
-        → Has Q (dueUpdates (mode (programOf T) m) k) ↔ DueRow (updateCount T) (updMode T) (updFrequency T) m k (λ i. Q (updateRow T i))
-    has-updates Q = rw (mode-row m l) (has-due Q (λ r. r .frequency) (updMode T) (updateRow T) (updateCount T) m k)
+        → Has Q (dueUpdates (mode (programOf T) m) k) ↔ DueRow (updateCount T) (updateMode T) (updateFrequency T) m k (λ i. Q (updateRow T i))
+    has-updates Q = rw (mode-row m l) (has-due Q (λ r. r .frequency) (updateMode T) (updateRow T) (updateCount T) m k)
 
     -- some switch of a mode that is due
     pub has-switches : (Q : Switch → Type 0)
-        → Has Q (dueSwitches (mode (programOf T) m) k) ↔ DueRow (switchCount T) (swMode T) (swFrequency T) m k (λ i. Q (switchRow T i))
-    has-switches Q = rw (mode-row m l) (has-due Q (λ r. r .frequency) (swMode T) (switchRow T) (switchCount T) m k)
+        → Has Q (dueSwitches (mode (programOf T) m) k) ↔ DueRow (switchCount T) (switchMode T) (switchFrequency T) m k (λ i. Q (switchRow T i))
+    has-switches Q = rw (mode-row m l) (has-due Q (λ r. r .frequency) (switchMode T) (switchRow T) (switchCount T) m k)

@@ -12,7 +12,7 @@ use Rattle.theory.specs.Search.{first}
 use Rattle.theory.proofs.Bools.{says-as, says-eq, bars-not, bars-as, _or_, says-bars}
 use Rattle.theory.proofs.Search.{first-within, first-has, first-least, rows-bar}
 use Rattle.cells.specs.Limits.{maxUnits}
-use Rattle.program.specs.Tables.{Tables, invMode, invFrequency, updMode, updFrequency, swMode, swFrequency}
+use Rattle.program.specs.Tables.{Tables, invocationMode, invocationFrequency, updateMode, updateFrequency, switchMode, switchFrequency}
 use Rattle.program.specs.Units.{misses, rowMisses, isMultiple, units, Multiple, Units}
 
 -- u misses f: f does not divide u. A frequency 0 divides only 0
@@ -27,9 +27,9 @@ module _ (T : Tables) (m : ℕ) where
   multiple-says u =
       says-bars
       (bars-as
-      (rows-bar (invFrequency T) _ (λ i. says-eq (invMode T i) m) (misses-bars u)
-      or rows-bar (updFrequency T) _ (λ i. says-eq (updMode T i) m) (misses-bars u)
-      or rows-bar (swFrequency T) _ (λ i. says-eq (swMode T i) m) (misses-bars u))
+      (rows-bar (invocationFrequency T) _ (λ i. says-eq (invocationMode T i) m) (misses-bars u)
+      or rows-bar (updateFrequency T) _ (λ i. says-eq (updateMode T i) m) (misses-bars u)
+      or rows-bar (switchFrequency T) _ (λ i. says-eq (switchMode T i) m) (misses-bars u))
       (λ g f. ⊎-elim (g .0 .0 f) (⊎-elim (g .0 .1 f) (g .1 f)))
       (λ g. ((λ f w. g f (inl w), λ f w. g f (inr (inl w))), λ f w. g f (inr (inr w)))))
 

@@ -9,10 +9,10 @@ use lib.ListN.{getD}
 use Rattle.theory.specs.Lists.{those, each, keep}
 use Rattle.cells.specs.Limits.{maxPorts}
 use Rattle.program.specs.Tables.{Tables, startMode, portCount, portFirst, sensor, input, output, taskCount, taskSupplier, taskWorst}
-use Rattle.program.specs.Tables.{taskPortCount, tpTask, tpPort, driverCount, copyCount, copyDriver, copySource, copyDestination}
-use Rattle.program.specs.Tables.{modeCount, modePeriod, modePortCount, mpMode, mpPort, invocationCount, invMode, invFrequency}
-use Rattle.program.specs.Tables.{invTask, invDriver, updateCount, updMode, updFrequency, updDriver, switchCount, swMode}
-use Rattle.program.specs.Tables.{swFrequency, swTarget, swDriver}
+use Rattle.program.specs.Tables.{taskPortCount, taskPortTask, taskPortPort, driverCount, copyCount, copyDriver, copySource, copyDestination}
+use Rattle.program.specs.Tables.{modeCount, modePeriod, modePortCount, modePortMode, modePortPort, invocationCount, invocationMode, invocationFrequency}
+use Rattle.program.specs.Tables.{invocationTask, invocationDriver, updateCount, updateMode, updateFrequency, updateDriver, switchCount, switchMode}
+use Rattle.program.specs.Tables.{switchFrequency, switchTarget, switchDriver}
 use Rattle.program.specs.Guard.{Guard, always, guardOf}
 use Rattle.program.specs.Sets.{isKind}
 use Rattle.program.specs.Units.{units, due}
@@ -73,28 +73,28 @@ abbrev pub driverRow : Tables → ℕ → Driver
 driverRow T d = record { guard = guardOf T d; copies = those (λ c. eqb (copyDriver T c) d) (copyRow T) (copyCount T) 0 }
 
 abbrev pub portsOf : Tables → ℕ → ℕ → List ℕ
-portsOf T kind t = those (λ k. eqb (tpTask T k) t && isKind T kind (tpPort T k)) (tpPort T) (taskPortCount T) 0
+portsOf T kind t = those (λ k. eqb (taskPortTask T k) t && isKind T kind (taskPortPort T k)) (taskPortPort T) (taskPortCount T) 0
 
 abbrev pub taskRow : Tables → ℕ → Task
 taskRow T t = record { supplier = taskSupplier T t; worst = taskWorst T t; inputs = portsOf T input t; outputs = portsOf T output t }
 
 abbrev pub invocationRow : Tables → ℕ → Invocation
-invocationRow T i = record { frequency = invFrequency T i; task = invTask T i; driver = invDriver T i }
+invocationRow T i = record { frequency = invocationFrequency T i; task = invocationTask T i; driver = invocationDriver T i }
 
 abbrev pub updateRow : Tables → ℕ → Update
-updateRow T i = record { frequency = updFrequency T i; driver = updDriver T i }
+updateRow T i = record { frequency = updateFrequency T i; driver = updateDriver T i }
 
 abbrev pub switchRow : Tables → ℕ → Switch
-switchRow T i = record { frequency = swFrequency T i; target = swTarget T i; driver = swDriver T i }
+switchRow T i = record { frequency = switchFrequency T i; target = switchTarget T i; driver = switchDriver T i }
 
 abbrev pub modeRow : Tables → ℕ → Mode
 modeRow T m = record {
   period = modePeriod T m;
   units = units T m;
-  ports = those (λ k. eqb (mpMode T k) m) (mpPort T) (modePortCount T) 0;
-  invocations = those (λ i. eqb (invMode T i) m) (invocationRow T) (invocationCount T) 0;
-  updates = those (λ i. eqb (updMode T i) m) (updateRow T) (updateCount T) 0;
-  switches = those (λ i. eqb (swMode T i) m) (switchRow T) (switchCount T) 0;
+  ports = those (λ k. eqb (modePortMode T k) m) (modePortPort T) (modePortCount T) 0;
+  invocations = those (λ i. eqb (invocationMode T i) m) (invocationRow T) (invocationCount T) 0;
+  updates = those (λ i. eqb (updateMode T i) m) (updateRow T) (updateCount T) 0;
+  switches = those (λ i. eqb (switchMode T i) m) (switchRow T) (switchCount T) 0;
 }
 
 abbrev pub programOf : Tables → Program

@@ -11,9 +11,9 @@ use lib.IntN.{ℤ}
 use Rattle.theory.specs.Search.{any}
 use Rattle.theory.specs.Lists.{those}
 use Rattle.cells.specs.Cell.{rowsIn, fieldAt}
-use Rattle.program.specs.Tables.{Tables, portWidth, portCount, portKind, sensor, actuator, input, output, taskPortCount, tpTask}
-use Rattle.program.specs.Tables.{tpPort, guardKind, guardPort, kindInterval, copyCount, copyDriver, copySource, copyDestination}
-use Rattle.program.specs.Tables.{modePortCount, mpMode, mpPort}
+use Rattle.program.specs.Tables.{Tables, portWidth, portCount, portKind, sensor, actuator, input, output, taskPortCount, taskPortTask}
+use Rattle.program.specs.Tables.{taskPortPort, guardKind, guardPort, kindInterval, copyCount, copyDriver, copySource, copyDestination}
+use Rattle.program.specs.Tables.{modePortCount, modePortMode, modePortPort}
 
 -- p is a declared port of this kind
 unfoldable pub isKind : Tables → ℕ → ℕ → Bool
@@ -21,10 +21,10 @@ isKind T kind p = ltb p (portCount T) && eqb (portKind T p) kind
 
 -- row k of the task ports is (t, p), row k of the mode ports is (m, p)
 unfoldable pub isTaskPort : Tables → ℕ → ℕ → ℕ → Bool
-isTaskPort T t p k = eqb (tpTask T k) t && eqb (tpPort T k) p
+isTaskPort T t p k = eqb (taskPortTask T k) t && eqb (taskPortPort T k) p
 
 unfoldable pub modePortAt : Tables → ℕ → ℕ → ℕ → Bool
-modePortAt T m p k = eqb (mpMode T k) m && eqb (mpPort T k) p
+modePortAt T m p k = eqb (modePortMode T k) m && eqb (modePortPort T k) p
 
 -- p is an input of task t, an output of task t
 unfoldable pub isInput : Tables → ℕ → ℕ → Bool
@@ -70,7 +70,7 @@ abbrev pub Actuator : Tables → ℕ → Type 0
 Actuator T = OfKind T actuator
 
 abbrev pub TaskPort : Tables → ℕ → ℕ → Type 0
-TaskPort T t p = (k : ℕ) × (k < taskPortCount T) × ((tpTask T k ≡ t) × (tpPort T k ≡ p))
+TaskPort T t p = (k : ℕ) × (k < taskPortCount T) × ((taskPortTask T k ≡ t) × (taskPortPort T k ≡ p))
 
 -- In[t], Out[t]
 abbrev pub Input : Tables → ℕ → ℕ → Type 0
@@ -81,7 +81,7 @@ Output T t p = OfKind T output p × TaskPort T t p
 
 -- ModePorts[m]
 abbrev pub ModePort : Tables → ℕ → ℕ → Type 0
-ModePort T m p = (k : ℕ) × (k < modePortCount T) × ((mpMode T k ≡ m) × (mpPort T k ≡ p))
+ModePort T m p = (k : ℕ) × (k < modePortCount T) × ((modePortMode T k ≡ m) × (modePortPort T k ≡ p))
 
 -- Src[d], Dst[d]
 abbrev pub Source : Tables → ℕ → ℕ → Type 0

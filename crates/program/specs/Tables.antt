@@ -6,6 +6,12 @@ use lib.IntN.{ℤ}
 use lib.ListN.{getD}
 use denote.Ref.{RefT, now}
 use Rattle.cells.specs.Cell.{indexOf, nameOf, rowsIn, fieldAt, namedAt, valueAt}
+pub use Rattle.cells.specs.Columns.{portWidth, portKindColumn, portFirstColumn, taskWidth, taskSupplierColumn, taskWorstColumn}
+pub use Rattle.cells.specs.Columns.{taskPortWidth, taskPortTaskColumn, taskPortPortColumn, driverWidth, guardKindColumn, guardPortColumn}
+pub use Rattle.cells.specs.Columns.{guardLowColumn, guardHighColumn, copyWidth, copyDriverColumn, copySourceColumn, copyDestinationColumn}
+pub use Rattle.cells.specs.Columns.{modeWidth, modePeriodColumn, modePortWidth, modePortModeColumn, modePortPortColumn, modeColumn}
+pub use Rattle.cells.specs.Columns.{frequencyColumn, invocationWidth, invocationTaskColumn, invocationDriverColumn, updateWidth}
+pub use Rattle.cells.specs.Columns.{updateDriverColumn, switchWidth, switchTargetColumn, switchDriverColumn}
 
 pub record Tables : Type 0 where
   pub ports : List ℤ
@@ -82,17 +88,14 @@ tablesIn lent start =
     (tableAt lent modesAt) (tableAt lent modePortsAt) (tableAt lent invocationsAt) (tableAt lent updatesAt) (tableAt lent switchesAt) start
 
 -- ports: kind (0 sensor, 1 actuator, 2 task input, 3 task output), first value
-abbrev pub portWidth : ℕ
-portWidth = 2
-
 abbrev pub portCount : Tables → ℕ
 portCount T = rowsIn portWidth (T .ports)
 
 abbrev pub portKind : Tables → ℕ → ℕ
-portKind T = fieldAt portWidth 0 (T .ports)
+portKind T = fieldAt portWidth portKindColumn (T .ports)
 
 abbrev pub portFirst : Tables → ℕ → ℤ
-portFirst T = valueAt portWidth 1 (T .ports)
+portFirst T = valueAt portWidth portFirstColumn (T .ports)
 
 abbrev pub sensor : ℕ
 sensor = 0
@@ -107,56 +110,40 @@ abbrev pub output : ℕ
 output = 3
 
 -- tasks: supplier 0..7, worst-case time 1..4,096
-abbrev pub taskWidth : ℕ
-taskWidth = 2
-
--- its columns: supplier, worst-case time
-abbrev pub taskOwner : ℕ
-taskOwner = 0
-
-abbrev pub taskTime : ℕ
-taskTime = 1
-
 abbrev pub taskCount : Tables → ℕ
 taskCount T = rowsIn taskWidth (T .tasks)
 
 abbrev pub taskSupplier : Tables → ℕ → ℕ
-taskSupplier T = fieldAt taskWidth taskOwner (T .tasks)
+taskSupplier T = fieldAt taskWidth taskSupplierColumn (T .tasks)
 
 abbrev pub taskWorst : Tables → ℕ → ℕ
-taskWorst T = fieldAt taskWidth taskTime (T .tasks)
+taskWorst T = fieldAt taskWidth taskWorstColumn (T .tasks)
 
 -- task ports: task, port
-abbrev pub taskPortWidth : ℕ
-taskPortWidth = 2
-
 abbrev pub taskPortCount : Tables → ℕ
 taskPortCount T = rowsIn taskPortWidth (T .taskPorts)
 
-abbrev pub tpTask : Tables → ℕ → ℕ
-tpTask T = namedAt taskPortWidth 0 (T .taskPorts)
+abbrev pub taskPortTask : Tables → ℕ → ℕ
+taskPortTask T = namedAt taskPortWidth taskPortTaskColumn (T .taskPorts)
 
-abbrev pub tpPort : Tables → ℕ → ℕ
-tpPort T = namedAt taskPortWidth 1 (T .taskPorts)
+abbrev pub taskPortPort : Tables → ℕ → ℕ
+taskPortPort T = namedAt taskPortWidth taskPortPortColumn (T .taskPorts)
 
 -- drivers: guard kind (0 always, 1 interval), port, low, high
-abbrev pub driverWidth : ℕ
-driverWidth = 4
-
 abbrev pub driverCount : Tables → ℕ
 driverCount T = rowsIn driverWidth (T .drivers)
 
 abbrev pub guardKind : Tables → ℕ → ℕ
-guardKind T = fieldAt driverWidth 0 (T .drivers)
+guardKind T = fieldAt driverWidth guardKindColumn (T .drivers)
 
 abbrev pub guardPort : Tables → ℕ → ℕ
-guardPort T = namedAt driverWidth 1 (T .drivers)
+guardPort T = namedAt driverWidth guardPortColumn (T .drivers)
 
 abbrev pub guardLow : Tables → ℕ → ℤ
-guardLow T = valueAt driverWidth 2 (T .drivers)
+guardLow T = valueAt driverWidth guardLowColumn (T .drivers)
 
 abbrev pub guardHigh : Tables → ℕ → ℤ
-guardHigh T = valueAt driverWidth 3 (T .drivers)
+guardHigh T = valueAt driverWidth guardHighColumn (T .drivers)
 
 abbrev pub kindAlways : ℕ
 kindAlways = 0
@@ -165,126 +152,86 @@ abbrev pub kindInterval : ℕ
 kindInterval = 1
 
 -- copies: driver, source, destination
-abbrev pub copyWidth : ℕ
-copyWidth = 3
-
 abbrev pub copyCount : Tables → ℕ
 copyCount T = rowsIn copyWidth (T .copies)
 
 abbrev pub copyDriver : Tables → ℕ → ℕ
-copyDriver T = namedAt copyWidth 0 (T .copies)
+copyDriver T = namedAt copyWidth copyDriverColumn (T .copies)
 
 abbrev pub copySource : Tables → ℕ → ℕ
-copySource T = namedAt copyWidth 1 (T .copies)
+copySource T = namedAt copyWidth copySourceColumn (T .copies)
 
 abbrev pub copyDestination : Tables → ℕ → ℕ
-copyDestination T = namedAt copyWidth 2 (T .copies)
+copyDestination T = namedAt copyWidth copyDestinationColumn (T .copies)
 
 -- modes: period 1..4,096 ticks
-abbrev pub modeWidth : ℕ
-modeWidth = 1
-
 abbrev pub modeCount : Tables → ℕ
 modeCount T = rowsIn modeWidth (T .modes)
 
 abbrev pub modePeriod : Tables → ℕ → ℕ
-modePeriod T = fieldAt modeWidth 0 (T .modes)
+modePeriod T = fieldAt modeWidth modePeriodColumn (T .modes)
 
 -- mode ports: mode, port
-abbrev pub modePortWidth : ℕ
-modePortWidth = 2
-
 abbrev pub modePortCount : Tables → ℕ
 modePortCount T = rowsIn modePortWidth (T .modePorts)
 
-abbrev pub mpMode : Tables → ℕ → ℕ
-mpMode T = namedAt modePortWidth 0 (T .modePorts)
+abbrev pub modePortMode : Tables → ℕ → ℕ
+modePortMode T = namedAt modePortWidth modePortModeColumn (T .modePorts)
 
-abbrev pub mpPort : Tables → ℕ → ℕ
-mpPort T = namedAt modePortWidth 1 (T .modePorts)
+abbrev pub modePortPort : Tables → ℕ → ℕ
+modePortPort T = namedAt modePortWidth modePortPortColumn (T .modePorts)
 
 -- Invocations, updates and switches begin alike: a mode, and a frequency in it.
-abbrev pub modeColumn : ℕ
-modeColumn = 0
-
-abbrev pub frequencyColumn : ℕ
-frequencyColumn = 1
-
 abbrev pub rowMode : ℕ → List ℤ → ℕ → ℕ
 rowMode width = namedAt width modeColumn
 
 abbrev pub rowFrequency : ℕ → List ℤ → ℕ → ℕ
 rowFrequency width = fieldAt width frequencyColumn
 
--- behind these, what a row names: a task, a driver, a target mode
-abbrev pub invocationTask : ℕ
-invocationTask = 2
-
-abbrev pub invocationDriver : ℕ
-invocationDriver = 3
-
-abbrev pub updateDriver : ℕ
-updateDriver = 2
-
-abbrev pub switchTarget : ℕ
-switchTarget = 2
-
-abbrev pub switchDriver : ℕ
-switchDriver = 3
-
 -- invocations: mode, frequency, task, driver
-abbrev pub invocationWidth : ℕ
-invocationWidth = 4
-
 abbrev pub invocationCount : Tables → ℕ
 invocationCount T = rowsIn invocationWidth (T .invocations)
 
-abbrev pub invMode : Tables → ℕ → ℕ
-invMode T = rowMode invocationWidth (T .invocations)
+abbrev pub invocationMode : Tables → ℕ → ℕ
+invocationMode T = rowMode invocationWidth (T .invocations)
 
-abbrev pub invFrequency : Tables → ℕ → ℕ
-invFrequency T = rowFrequency invocationWidth (T .invocations)
+abbrev pub invocationFrequency : Tables → ℕ → ℕ
+invocationFrequency T = rowFrequency invocationWidth (T .invocations)
 
-abbrev pub invTask : Tables → ℕ → ℕ
-invTask T = namedAt invocationWidth invocationTask (T .invocations)
+abbrev pub invocationTask : Tables → ℕ → ℕ
+invocationTask T = namedAt invocationWidth invocationTaskColumn (T .invocations)
 
-abbrev pub invDriver : Tables → ℕ → ℕ
-invDriver T = namedAt invocationWidth invocationDriver (T .invocations)
+abbrev pub invocationDriver : Tables → ℕ → ℕ
+invocationDriver T = namedAt invocationWidth invocationDriverColumn (T .invocations)
 
 -- updates: mode, frequency, driver
-abbrev pub updateWidth : ℕ
-updateWidth = 3
-
 abbrev pub updateCount : Tables → ℕ
 updateCount T = rowsIn updateWidth (T .updates)
 
-abbrev pub updMode : Tables → ℕ → ℕ
-updMode T = rowMode updateWidth (T .updates)
+abbrev pub updateMode : Tables → ℕ → ℕ
+updateMode T = rowMode updateWidth (T .updates)
 
-abbrev pub updFrequency : Tables → ℕ → ℕ
-updFrequency T = rowFrequency updateWidth (T .updates)
+abbrev pub updateFrequency : Tables → ℕ → ℕ
+updateFrequency T = rowFrequency updateWidth (T .updates)
 
-abbrev pub updDriver : Tables → ℕ → ℕ
-updDriver T = namedAt updateWidth updateDriver (T .updates)
+abbrev pub updateDriver : Tables → ℕ → ℕ
+updateDriver T = namedAt updateWidth updateDriverColumn (T .updates)
 
 -- switches: mode, frequency, target mode, driver
-abbrev pub switchWidth : ℕ
-switchWidth = 4
-
 abbrev pub switchCount : Tables → ℕ
 switchCount T = rowsIn switchWidth (T .switches)
 
-abbrev pub swMode : Tables → ℕ → ℕ
-swMode T = rowMode switchWidth (T .switches)
+abbrev pub switchMode : Tables → ℕ → ℕ
+switchMode T = rowMode switchWidth (T .switches)
 
-abbrev pub swFrequency : Tables → ℕ → ℕ
-swFrequency T = rowFrequency switchWidth (T .switches)
+abbrev pub switchFrequency : Tables → ℕ → ℕ
+switchFrequency T = rowFrequency switchWidth (T .switches)
 
-abbrev pub swTarget : Tables → ℕ → ℕ
-swTarget T = namedAt switchWidth switchTarget (T .switches)
+abbrev pub switchTarget : Tables → ℕ → ℕ
+switchTarget T = namedAt switchWidth switchTargetColumn (T .switches)
 
-abbrev pub swDriver : Tables → ℕ → ℕ
-swDriver T = namedAt switchWidth switchDriver (T .switches)
+abbrev pub switchDriver : Tables → ℕ → ℕ
+switchDriver T = namedAt switchWidth switchDriverColumn (T .switches)
 
 -- the rows of the table at a place, counted; none past the last
 abbrev pub rowsAt : Tables → ℕ → ℕ

@@ -11,8 +11,8 @@ use Rattle.theory.specs.Search.{any, first}
 use Rattle.theory.specs.Lists.{those}
 use Rattle.cells.specs.Cell.{rowsIn}
 use Rattle.cells.specs.Limits.{maxUnits}
-use Rattle.program.specs.Tables.{Tables, rowMode, rowFrequency, invocationWidth, updateWidth, switchWidth, invocationCount, invMode}
-use Rattle.program.specs.Tables.{invFrequency, updateCount, updMode, updFrequency, switchCount, swMode, swFrequency}
+use Rattle.program.specs.Tables.{Tables, rowMode, rowFrequency, invocationWidth, updateWidth, switchWidth, invocationCount, invocationMode}
+use Rattle.program.specs.Tables.{invocationFrequency, updateCount, updateMode, updateFrequency, switchCount, switchMode, switchFrequency}
 
 -- u is not a multiple of the frequency f
 unfoldable pub misses : ℕ → ℕ → Bool
@@ -49,9 +49,9 @@ dueRows width t m u k row = those (rowDue width t m u k) row (rowsIn width t) 0
 -- The same as claims. The mode frequencies of m (001, section 3.2)
 abbrev pub Frequency : Tables → ℕ → ℕ → Type 0
 Frequency T m f =
-    ((i : ℕ) × (i < invocationCount T) × ((invMode T i ≡ m) × (invFrequency T i ≡ f)))
-    ⊎ (((i : ℕ) × (i < updateCount T) × ((updMode T i ≡ m) × (updFrequency T i ≡ f)))
-    ⊎ ((i : ℕ) × (i < switchCount T) × ((swMode T i ≡ m) × (swFrequency T i ≡ f))))
+    ((i : ℕ) × (i < invocationCount T) × ((invocationMode T i ≡ m) × (invocationFrequency T i ≡ f)))
+    ⊎ (((i : ℕ) × (i < updateCount T) × ((updateMode T i ≡ m) × (updateFrequency T i ≡ f)))
+    ⊎ ((i : ℕ) × (i < switchCount T) × ((switchMode T i ≡ m) × (switchFrequency T i ≡ f))))
 
 -- u is a multiple of each of them
 abbrev pub Multiple : Tables → ℕ → ℕ → Type 0

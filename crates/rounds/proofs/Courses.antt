@@ -11,7 +11,7 @@ use lib.ListN.{length}
 use Rattle.theory.specs.Lists.{keep, member}
 use Rattle.theory.specs.Verdict.{acceptedNumber}
 use Rattle.theory.proofs.Lists.{sum-same, keep-those, those-same}
-use Rattle.program.specs.Tables.{Tables, taskCount, taskSupplier, modeCount, invocationWidth, invocationCount, invTask}
+use Rattle.program.specs.Tables.{Tables, taskCount, taskSupplier, modeCount, invocationWidth, invocationCount, invocationTask}
 use Rattle.program.specs.Units.{units, rowDue}
 use Rattle.program.specs.Program.{Program, Mode, Task, programOf, task, mode, ticksOf, nextOf, nextUnit, dueTasks}
 use Rattle.program.proofs.Decoded.{mode-count, mode-row, task-row, due-task-rows}
@@ -35,18 +35,18 @@ module _ (T : Tables) (a : programVerdict T ≡ acceptedNumber) where
   P = programOf T
 
   -- every invocation names a declared task, so its row is the task's
-  named-row : (i : ℕ) → i < invocationCount T → task P (invTask T i) .supplier ≡ taskSupplier T (invTask T i)
-  named-row i l = ap (λ (t : Task). t .supplier) (task-row T (invTask T i) (accepted-fields T a .invocations i l .task))
+  named-row : (i : ℕ) → i < invocationCount T → task P (invocationTask T i) .supplier ≡ taskSupplier T (invocationTask T i)
+  named-row i l = ap (λ (t : Task). t .supplier) (task-row T (invocationTask T i) (accepted-fields T a .invocations i l .task))
 
   module _ (s m : ℕ) (l : m < modeCount T) where
     -- of the mode's due tasks those of the supplier are the rows that are its own
     own-rows : (k : ℕ) → ownRows (T .tasks) (T .invocations) s m (units T m) k ≡ ownTasks P s (dueTasks (mode P m) k)
     unfolding ownDue
     own-rows k =
-        those-same _ _ (invTask T) (invocationCount T) 0
+        those-same _ _ (invocationTask T) (invocationCount T) 0
         (λ i h j. ap (λ (n : ℕ). rowDue invocationWidth (T .invocations) m (units T m) k i && eqb n s) (sym (named-row i (omega arith))))
         ∙ sym (ap (keep (λ t. eqb (task P t .supplier) s)) (due-task-rows T m k l)
-        ∙ keep-those (λ t. eqb (task P t .supplier) s) (rowDue invocationWidth (T .invocations) m (units T m) k) (invTask T) (invocationCount T) 0)
+        ∙ keep-those (λ t. eqb (task P t .supplier) s) (rowDue invocationWidth (T .invocations) m (units T m) k) (invocationTask T) (invocationCount T) 0)
 
     -- so a task of the supplier that is due is declared
     rows-declared : (k j : ℕ) → member j (ownRows (T .tasks) (T .invocations) s m (units T m) k) ≡ true → j < taskCount T

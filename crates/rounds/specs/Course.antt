@@ -7,7 +7,7 @@ use lib.Dec.{eqb}
 use lib.IntN.{ℤ}
 use Rattle.theory.specs.Lists.{those, sum}
 use Rattle.cells.specs.Cell.{rowsIn, fieldAt, namedAt}
-use Rattle.program.specs.Tables.{Tables, taskWidth, taskOwner, taskTime, invocationWidth, invocationTask, modePeriod}
+use Rattle.program.specs.Tables.{Tables, taskWidth, taskSupplierColumn, taskWorstColumn, invocationWidth, invocationTaskColumn, modePeriod}
 use Rattle.program.specs.Units.{units, rowDue}
 use Rattle.program.specs.Program.{nextOf}
 use Rattle.layout.specs.declared.counts.Counts.{Counts}
@@ -21,12 +21,12 @@ use Rattle.runs.specs.Round.{Course}
 unfoldable pub ownDue : List ℤ → List ℤ → ℕ → ℕ → ℕ → ℕ → ℕ → Bool
 ownDue tasks invocations s m u k i =
     rowDue invocationWidth invocations m u k i
-    && eqb (fieldAt taskWidth taskOwner tasks (namedAt invocationWidth invocationTask invocations i)) s
+    && eqb (fieldAt taskWidth taskSupplierColumn tasks (namedAt invocationWidth invocationTaskColumn invocations i)) s
 
 -- the tasks of those that are, in table order
 abbrev pub ownRows : List ℤ → List ℤ → ℕ → ℕ → ℕ → ℕ → List ℕ
 ownRows tasks invocations s m u k =
-    those (ownDue tasks invocations s m u k) (namedAt invocationWidth invocationTask invocations) (rowsIn invocationWidth invocations) 0
+    those (ownDue tasks invocations s m u k) (namedAt invocationWidth invocationTaskColumn invocations) (rowsIn invocationWidth invocations) 0
 
 -- supplier s in mode m, which has u units of so many ticks, with these blocks
 abbrev pub courseIn : List ℤ → List ℤ → List ℤ → ℕ → ℕ → ℕ → ℕ → (ℕ → List Row) → Course
@@ -36,7 +36,7 @@ courseIn tasks invocations W s m u ticks block = record {
   block = block;
   released = λ k. ownRows tasks invocations s m u k;
   ending = λ k. ownRows tasks invocations s m u (nextOf u k);
-  worst = fieldAt taskWidth taskTime tasks;
+  worst = fieldAt taskWidth taskWorstColumn tasks;
   window = inWindow W s m;
 }
 

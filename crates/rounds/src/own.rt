@@ -3,7 +3,7 @@ ghost use mathlib.Core.Path.{_≡_};
 ghost use Prim.Native.Nat.{_<_};
 ghost use lib.ListN.{set};
 ghost use Rattle.cells.specs.Cell.{fieldAt};
-ghost use Rattle.program.specs.Tables.{taskWidth, taskTime};
+ghost use Rattle.program.specs.Tables.{taskWidth, taskWorstColumn};
 ghost use Rattle.program.specs.Program.{nextOf};
 ghost use Rattle.runs.specs.Round.{release, unfinished};
 ghost use Rattle.rounds.specs.Course.{ownDue, ownRows};
@@ -46,7 +46,7 @@ pub fn next_of(u: usize, k: usize) -> usize
 
 // These remaining times with task t released; where there are not so many, as they are.
 fn begun(tasks: &[i32], t: Task, left: [usize; Program::TASKS]) -> [usize; Program::TASKS]
-    ensures { λ r. ⌜ r ≡ set left (t .0) (fieldAt taskWidth taskTime (now (tasks .entry)) (t .0)) ⌝ }
+    ensures { λ r. ⌜ r ≡ set left (t .0) (fieldAt taskWidth taskWorstColumn (now (tasks .entry)) (t .0)) ⌝ }
 {
     let j = t.index();
     let mut rest = left;
@@ -67,7 +67,7 @@ pub fn released(
     left: [usize; Program::TASKS],
 ) -> [usize; Program::TASKS]
     ensures { λ r. ⌜ r ≡ release (ownRows (now (tasks .entry)) (now (invocations .entry)) supplier (m .0) u k)
-        (fieldAt taskWidth taskTime (now (tasks .entry))) left ⌝ }
+        (fieldAt taskWidth taskWorstColumn (now (tasks .entry))) left ⌝ }
 {
     let n = invocations.len() / invocation::WIDTH;
     let mut rest = left;

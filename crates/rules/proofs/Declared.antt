@@ -6,7 +6,7 @@ use native.Mathlib.Omega.{arith}
 use Rattle.theory.specs.Claim.{Bars}
 use Rattle.theory.proofs.Bools.{says-eq, bars-not, bars-says, bars-and, bars-as, _or_, _and_}
 use Rattle.theory.proofs.Search.{bars-any}
-use Rattle.program.specs.Tables.{Tables, sensor, actuator, input, output, taskPortCount, tpTask, tpPort, mpPort}
+use Rattle.program.specs.Tables.{Tables, sensor, actuator, input, output, taskPortCount, taskPortTask, taskPortPort, modePortPort}
 use Rattle.program.specs.Sets.{isTaskPort, modePortAt, copiesTo, OfKind, Input}
 use Rattle.program.proofs.Sets.{kind-says}
 use Rattle.rules.specs.Declared.{samePort, taskPortClash, taskPortsBad, TaskPorts, copyClash, copiesBad, Copies, modePortClash, modePortsBad, ModePorts}
@@ -14,13 +14,13 @@ use Rattle.rules.specs.Declared.{samePort, taskPortClash, taskPortsBad, 
 module _ (T : Tables) where
   -- an input port stands in one row
   abbrev InputsOnce : Type 0
-  InputsOnce = (k : ℕ) → k < taskPortCount T → OfKind T input (tpPort T k) → (j : ℕ) → j < k → tpPort T j ≡ tpPort T k → ⊥
+  InputsOnce = (k : ℕ) → k < taskPortCount T → OfKind T input (taskPortPort T k) → (j : ℕ) → j < k → taskPortPort T j ≡ taskPortPort T k → ⊥
 
   -- so it is of one task
   one-task : InputsOnce → {t u p : ℕ} → Input T t p → Input T u p → t ≡ u
   one-task once {p} a b =
       let e : a .1 .0 ≡ b .1 .0 = omega (arith, later a b, later b a) in
-      sym (a .1 .2 .0) ∙ ap (tpTask T) e ∙ b .1 .2 .0
+      sym (a .1 .2 .0) ∙ ap (taskPortTask T) e ∙ b .1 .2 .0
     where
       later : {t u : ℕ} (a : Input T t p) (b : Input T u p) → a .1 .0 < b .1 .0 → ⊥
       later (q, (j, h, (s, e))) (r, (k, i, (t, f))) l = once k i (subst (OfKind T input) (sym f) r) j l (e ∙ sym f)
@@ -28,9 +28,9 @@ module _ (T : Tables) where
   -- and where it is of one task, a second row would repeat the first
   one-row : TaskPorts T → InputsOnce
   one-row s k h q j l e =
-      let first : Input T (tpTask T j) (tpPort T k) = (q, (j, omega arith, (refl, e))) in
-      let second : Input T (tpTask T k) (tpPort T k) = (q, (k, h, (refl, refl))) in
-      s .no-repeat j k l h (s .inputs-apart (tpTask T j) (tpTask T k) (tpPort T k) first second) e
+      let first : Input T (taskPortTask T j) (taskPortPort T k) = (q, (j, omega arith, (refl, e))) in
+      let second : Input T (taskPortTask T k) (taskPortPort T k) = (q, (k, h, (refl, refl))) in
+      s .no-repeat j k l h (s .inputs-apart (taskPortTask T j) (taskPortTask T k) (taskPortPort T k) first second) e
 
   -- number 3 bars task ports that do not repeat, are no sensors or actuators, and inputs that no two tasks share
   pub task-ports-bar : Bars (taskPortsBad T) (TaskPorts T)
@@ -40,9 +40,9 @@ module _ (T : Tables) where
       (bars-any _ _
       (λ k.
       bars-any _ _ (λ j. bars-says (says-eq _ _ and says-eq _ _)) k
-      or bars-says (kind-says T sensor (tpPort T k))
-      or bars-says (kind-says T actuator (tpPort T k))
-      or bars-and (kind-says T input (tpPort T k)) (bars-any _ _ (λ j. bars-says (says-eq _ _)) k)) _)
+      or bars-says (kind-says T sensor (taskPortPort T k))
+      or bars-says (kind-says T actuator (taskPortPort T k))
+      or bars-and (kind-says T input (taskPortPort T k)) (bars-any _ _ (λ j. bars-says (says-eq _ _)) k)) _)
       (λ g.
       record {
         no-repeat = λ j k l h e f. g k h .0 .0 .0 j l (e, f);
@@ -68,6 +68,6 @@ module _ (T : Tables) where
       (bars-any _ _
       (λ k.
       bars-any _ _ (λ j. bars-says (says-eq _ _ and says-eq _ _)) k
-      or bars-not (kind-says T output (mpPort T k))) _)
+      or bars-not (kind-says T output (modePortPort T k))) _)
       (λ g. record { no-repeat = λ j k l h e f. g k h .0 j l (e, f); outputs = λ k h. g k h .1 })
       (λ s k h. (λ j l e. s .no-repeat j k l h (e .0) (e .1), s .outputs k h))

@@ -10,7 +10,7 @@ use borrow.Author.Tests.{eqb-false}
 use Rattle.theory.specs.Claim.{Bars}
 use Rattle.theory.proofs.Bools.{says-or, says-eq, bars-not, bars-says, bars-and, bars-as, _or_}
 use Rattle.theory.proofs.Search.{bars-any, bars-below}
-use Rattle.program.specs.Tables.{Tables, sensor, actuator, driverCount, guardKind, guardPort, guardLow, guardHigh, kindAlways, invMode, invTask, invDriver, updMode, updDriver, switchCount, swMode, swTarget, swDriver}
+use Rattle.program.specs.Tables.{Tables, sensor, actuator, driverCount, guardKind, guardPort, guardLow, guardHigh, kindAlways, invocationMode, invocationTask, invocationDriver, updateMode, updateDriver, switchCount, switchMode, switchTarget, switchDriver}
 use Rattle.program.specs.Guard.{always, interval, guardOf}
 use Rattle.program.specs.Sets.{Sensor, ModePort}
 use Rattle.program.proofs.Sets.{kind-says, input-says, output-says, mode-port-says, destination-says}
@@ -31,16 +31,16 @@ module _ (T : Tables) where
       bars-as
       (bars-any _ _
       (λ i.
-      let m = invMode T i in
-      let t = invTask T i in
-      let d = invDriver T i in
+      let m = invocationMode T i in
+      let t = invocationTask T i in
+      let d = invocationDriver T i in
       some-output-bars T (λ p. bars-not (mode-port-says T m p)) t
       or some-source-bars T (unreadable-bars m) d
       or some-destination-bars T (λ p. bars-not (input-says T t p)) d
       or some-input-bars T (λ p. bars-not (destination-says T d p)) t
       or bars-not (says-eq (guardKind T d) kindAlways)
       or bars-any _ _
-      (λ j. bars-and (says-eq _ _) (bars-says (says-eq _ _) or some-output-bars T (λ p. bars-says (output-says T (invTask T j) p)) t)) i) _)
+      (λ j. bars-and (says-eq _ _) (bars-says (says-eq _ _) or some-output-bars T (λ p. bars-says (output-says T (invocationTask T j) p)) t)) i) _)
       (λ g.
       record {
         each = λ i h.
@@ -60,11 +60,11 @@ module _ (T : Tables) where
       bars-as
       (bars-any _ _
       (λ i.
-      let d = updDriver T i in
-      some-source-bars T (λ p. bars-not (mode-port-says T (updMode T i) p)) d
+      let d = updateDriver T i in
+      some-source-bars T (λ p. bars-not (mode-port-says T (updateMode T i) p)) d
       or some-destination-bars T (λ p. bars-not (kind-says T actuator p)) d
       or bars-any _ _
-      (λ j. bars-and (says-eq _ _) (some-destination-bars T (λ p. bars-says (destination-says T (updDriver T j) p)) d)) i) _)
+      (λ j. bars-and (says-eq _ _) (some-destination-bars T (λ p. bars-says (destination-says T (updateDriver T j) p)) d)) i) _)
       (λ g.
       record {
         sources = λ i p h. g i h .0 .0 p;
@@ -89,14 +89,14 @@ module _ (T : Tables) (f : Fields T) where
       bars-as
       (bars-below _
       (λ i h.
-      let d = swDriver T i in
-      some-source-bars T (unreadable-bars T (swMode T i)) d
-      or some-destination-bars T (λ p. bars-not (mode-port-says T (swTarget T i) p)) d
-      or some-port-bars T (λ p. bars-not (destination-says T d p)) (swTarget T i)
+      let d = switchDriver T i in
+      some-source-bars T (unreadable-bars T (switchMode T i)) d
+      or some-destination-bars T (λ p. bars-not (mode-port-says T (switchTarget T i) p)) d
+      or some-port-bars T (λ p. bars-not (destination-says T d p)) (switchTarget T i)
       or bars-below i
       (λ j l.
-      bars-and (says-eq (swMode T j) (swMode T i))
-      (bars-says (meet-says (guardOf T (swDriver T j)) (guardOf T d) (sound j (omega arith)) (sound i h))))))
+      bars-and (says-eq (switchMode T j) (switchMode T i))
+      (bars-says (meet-says (guardOf T (switchDriver T j)) (guardOf T d) (sound j (omega arith)) (sound i h))))))
       (λ g.
       record {
         sources = λ i p h. g i h .0 .0 .0 p;
@@ -106,5 +106,5 @@ module _ (T : Tables) (f : Fields T) where
       (λ s i h.
       (((λ p. s .sources i p h, λ p. s .destinations i p h .0), λ p. s .destinations i p h .1), λ j l. s .apart i j l h))
     where
-      sound : (i : ℕ) → i < switchCount T → Sound (guardOf T (swDriver T i))
-      sound i h = guard-sound (swDriver T i) (f .switches i h .driver)
+      sound : (i : ℕ) → i < switchCount T → Sound (guardOf T (switchDriver T i))
+      sound i h = guard-sound (switchDriver T i) (f .switches i h .driver)

@@ -9,15 +9,15 @@ use Rattle.theory.specs.Claim.{Bars}
 use Rattle.theory.proofs.Search.{rows-bar}
 use Rattle.theory.specs.Search.{any}
 use Rattle.theory.proofs.Bools.{says-eq, bars-and, bars-as, _or_, _and_}
-use Rattle.program.specs.Tables.{Tables, input, output, taskPortCount, tpTask, tpPort, guardKind, guardPort, kindInterval, copySource, copyDestination, mpPort}
+use Rattle.program.specs.Tables.{Tables, input, output, taskPortCount, taskPortTask, taskPortPort, guardKind, guardPort, kindInterval, copySource, copyDestination, modePortPort}
 use Rattle.program.specs.Sets.{isKind, OfKind, TaskPort, Input, Output, ModePort, Source, Destination}
 use Rattle.program.proofs.Sets.{kind-says}
 use Rattle.rules.specs.Modes.{ownPort, outputWith, inputWith, portWith, sourceWith, destinationWith, someOutput, someInput, somePort, someSource, someDestination}
 
 module _ (T : Tables) {bad : ℕ → Bool} {G : ℕ → Type 0} (b : (p : ℕ) → Bars (bad p) (G p)) where
-  some-task-port : (kind t : ℕ) → Bars (any (λ k. eqb (tpTask T k) t && isKind T kind (tpPort T k) && bad (tpPort T k)) (taskPortCount T)) ((p : ℕ) → OfKind T kind p × TaskPort T t p → G p)
+  some-task-port : (kind t : ℕ) → Bars (any (λ k. eqb (taskPortTask T k) t && isKind T kind (taskPortPort T k) && bad (taskPortPort T k)) (taskPortCount T)) ((p : ℕ) → OfKind T kind p × TaskPort T t p → G p)
   some-task-port kind t =
-      bars-as (rows-bar (tpPort T) _ (λ k. says-eq _ _ and kind-says T kind (tpPort T k)) b)
+      bars-as (rows-bar (taskPortPort T) _ (λ k. says-eq _ _ and kind-says T kind (taskPortPort T k)) b)
       (λ g p (q, (k, l, (e, f))). g p (k, l, ((e, subst (OfKind T kind) (sym f) q), f)))
       (λ g p (k, l, ((e, q), f)). g p (subst (OfKind T kind) f q, (k, l, (e, f))))
 
@@ -34,7 +34,7 @@ module _ (T : Tables) {bad : ℕ → Bool} {G : ℕ → Type 0} (b : (p : ℕ) �
   -- of the ports of a mode
   pub some-port-bars : (m : ℕ) → Bars (somePort T bad m) ((p : ℕ) → ModePort T m p → G p)
   unfolding somePort portWith
-  some-port-bars m = rows-bar (mpPort T) _ (λ k. says-eq _ _) b
+  some-port-bars m = rows-bar (modePortPort T) _ (λ k. says-eq _ _) b
 
   -- of the sources of a driver
   pub some-source-bars : (d : ℕ) → Bars (someSource T bad d) ((p : ℕ) → Source T d p → G p)

@@ -5,30 +5,30 @@ use mathlib.Core.Path.{_≡_}
 use mathlib.Core.Bool.{Bool, not, _&&_, _||_}
 use lib.Dec.{eqb}
 use Rattle.theory.specs.Search.{any}
-use Rattle.program.specs.Tables.{Tables, sensor, actuator, input, output, taskPortCount, tpTask, tpPort, copyCount, copyDriver}
-use Rattle.program.specs.Tables.{copyDestination, modePortCount, mpMode, mpPort}
+use Rattle.program.specs.Tables.{Tables, sensor, actuator, input, output, taskPortCount, taskPortTask, taskPortPort, copyCount, copyDriver}
+use Rattle.program.specs.Tables.{copyDestination, modePortCount, modePortMode, modePortPort}
 use Rattle.program.specs.Sets.{isKind, isTaskPort, modePortAt, copiesTo, OfKind, Input}
 
 -- 3: a task port row repeats, names a sensor or actuator, or one input port serves two tasks
 unfoldable pub samePort : Tables → ℕ → ℕ → Bool
-samePort T p k = eqb (tpPort T k) p
+samePort T p k = eqb (taskPortPort T k) p
 
 unfoldable pub taskPortClash : Tables → ℕ → Bool
 taskPortClash T k =
-    let repeats = any (isTaskPort T (tpTask T k) (tpPort T k)) k in
-    let serves = any (samePort T (tpPort T k)) k in
+    let repeats = any (isTaskPort T (taskPortTask T k) (taskPortPort T k)) k in
+    let serves = any (samePort T (taskPortPort T k)) k in
     repeats
-    || isKind T sensor (tpPort T k)
-    || isKind T actuator (tpPort T k)
-    || (isKind T input (tpPort T k) && serves)
+    || isKind T sensor (taskPortPort T k)
+    || isKind T actuator (taskPortPort T k)
+    || (isKind T input (taskPortPort T k) && serves)
 
 unfoldable pub taskPortsBad : Tables → Bool
 taskPortsBad T = any (taskPortClash T) (taskPortCount T)
 
 pub record TaskPorts (T : Tables) : Type 0 where
-  pub no-repeat : (j k : ℕ) → j < k → k < taskPortCount T → tpTask T j ≡ tpTask T k → tpPort T j ≡ tpPort T k → ⊥
-  pub no-sensor : (k : ℕ) → k < taskPortCount T → OfKind T sensor (tpPort T k) → ⊥
-  pub no-actuator : (k : ℕ) → k < taskPortCount T → OfKind T actuator (tpPort T k) → ⊥
+  pub no-repeat : (j k : ℕ) → j < k → k < taskPortCount T → taskPortTask T j ≡ taskPortTask T k → taskPortPort T j ≡ taskPortPort T k → ⊥
+  pub no-sensor : (k : ℕ) → k < taskPortCount T → OfKind T sensor (taskPortPort T k) → ⊥
+  pub no-actuator : (k : ℕ) → k < taskPortCount T → OfKind T actuator (taskPortPort T k) → ⊥
   -- In[t] and In[t′] share no port
   pub inputs-apart : (t u p : ℕ) → Input T t p → Input T u p → t ≡ u
 
@@ -44,11 +44,11 @@ Copies T = (b c : ℕ) → b < c → c < copyCount T → copyDriver T b ≡ copy
 
 -- 5: a mode port row repeats or names no output port
 unfoldable pub modePortClash : Tables → ℕ → Bool
-modePortClash T k = any (modePortAt T (mpMode T k) (mpPort T k)) k || not (isKind T output (mpPort T k))
+modePortClash T k = any (modePortAt T (modePortMode T k) (modePortPort T k)) k || not (isKind T output (modePortPort T k))
 
 unfoldable pub modePortsBad : Tables → Bool
 modePortsBad T = any (modePortClash T) (modePortCount T)
 
 pub record ModePorts (T : Tables) : Type 0 where
-  pub no-repeat : (j k : ℕ) → j < k → k < modePortCount T → mpMode T j ≡ mpMode T k → mpPort T j ≡ mpPort T k → ⊥
-  pub outputs : (k : ℕ) → k < modePortCount T → OfKind T output (mpPort T k)
+  pub no-repeat : (j k : ℕ) → j < k → k < modePortCount T → modePortMode T j ≡ modePortMode T k → modePortPort T j ≡ modePortPort T k → ⊥
+  pub outputs : (k : ℕ) → k < modePortCount T → OfKind T output (modePortPort T k)

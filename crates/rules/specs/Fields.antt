@@ -12,11 +12,11 @@ use Rattle.theory.specs.Order.{_≤Z_}
 use Rattle.cells.specs.Cell.{eqZ}
 use Rattle.cells.specs.Reading.{isMissing, noReading, Value, isValue}
 use Rattle.cells.specs.Limits.{suppliers, maxWorst, maxPeriod, maxFrequency}
-use Rattle.program.specs.Tables.{Tables, portCount, portKind, output, taskCount, taskSupplier, taskWorst, taskPortCount, tpTask, tpPort}
+use Rattle.program.specs.Tables.{Tables, portCount, portKind, output, taskCount, taskSupplier, taskWorst, taskPortCount, taskPortTask, taskPortPort}
 use Rattle.program.specs.Tables.{driverCount, guardKind, guardPort, guardLow, guardHigh, kindAlways, kindInterval, copyCount, copyDriver}
-use Rattle.program.specs.Tables.{copySource, copyDestination, modeCount, modePeriod, modePortCount, mpMode, mpPort, invocationCount}
-use Rattle.program.specs.Tables.{invMode, invFrequency, invTask, invDriver, updateCount, updMode, updFrequency, updDriver, switchCount}
-use Rattle.program.specs.Tables.{swMode, swFrequency, swTarget, swDriver, startMode}
+use Rattle.program.specs.Tables.{copySource, copyDestination, modeCount, modePeriod, modePortCount, modePortMode, modePortPort, invocationCount}
+use Rattle.program.specs.Tables.{invocationMode, invocationFrequency, invocationTask, invocationDriver, updateCount, updateMode, updateFrequency, updateDriver, switchCount}
+use Rattle.program.specs.Tables.{switchMode, switchFrequency, switchTarget, switchDriver, startMode}
 
 -- from 1 to the limit
 unfoldable pub inRange : ℕ → ℕ → Bool
@@ -39,11 +39,11 @@ pub record TaskFits (T : Tables) (t : ℕ) : Type 0 where
 
 -- task ports: a task, a port
 unfoldable pub taskPortBad : Tables → ℕ → Bool
-taskPortBad T k = not (ltb (tpTask T k) (taskCount T) && ltb (tpPort T k) (portCount T))
+taskPortBad T k = not (ltb (taskPortTask T k) (taskCount T) && ltb (taskPortPort T k) (portCount T))
 
 pub record TaskPortFits (T : Tables) (k : ℕ) : Type 0 where
-  pub task : tpTask T k < taskCount T
-  pub port : tpPort T k < portCount T
+  pub task : taskPortTask T k < taskCount T
+  pub port : taskPortPort T k < portCount T
 
 -- drivers: kind 0 has 0 in its other three fields; kind 1 has a port, values low ≤ high, and low no reading only if high is too. (A
 -- number of a lent slice is always a value; what is none is out of range, so that the rules speak of every list of numbers.)
@@ -91,50 +91,50 @@ modeBad T m = not (inRange (modePeriod T m) maxPeriod)
 
 -- mode ports: a mode, a port
 unfoldable pub modePortBad : Tables → ℕ → Bool
-modePortBad T k = not (ltb (mpMode T k) (modeCount T) && ltb (mpPort T k) (portCount T))
+modePortBad T k = not (ltb (modePortMode T k) (modeCount T) && ltb (modePortPort T k) (portCount T))
 
 pub record ModePortFits (T : Tables) (k : ℕ) : Type 0 where
-  pub mode : mpMode T k < modeCount T
-  pub port : mpPort T k < portCount T
+  pub mode : modePortMode T k < modeCount T
+  pub port : modePortPort T k < portCount T
 
 -- invocations: a mode, a frequency 1..64, a task, a driver
 unfoldable pub invocationBad : Tables → ℕ → Bool
 invocationBad T i =
     not
-    (ltb (invMode T i) (modeCount T)
-    && inRange (invFrequency T i) maxFrequency
-    && ltb (invTask T i) (taskCount T)
-    && ltb (invDriver T i) (driverCount T))
+    (ltb (invocationMode T i) (modeCount T)
+    && inRange (invocationFrequency T i) maxFrequency
+    && ltb (invocationTask T i) (taskCount T)
+    && ltb (invocationDriver T i) (driverCount T))
 
 pub record InvocationFits (T : Tables) (i : ℕ) : Type 0 where
-  pub mode : invMode T i < modeCount T
-  pub frequency : InRange (invFrequency T i) maxFrequency
-  pub task : invTask T i < taskCount T
-  pub driver : invDriver T i < driverCount T
+  pub mode : invocationMode T i < modeCount T
+  pub frequency : InRange (invocationFrequency T i) maxFrequency
+  pub task : invocationTask T i < taskCount T
+  pub driver : invocationDriver T i < driverCount T
 
 -- updates: a mode, a frequency, a driver
 unfoldable pub updateBad : Tables → ℕ → Bool
-updateBad T i = not (ltb (updMode T i) (modeCount T) && inRange (updFrequency T i) maxFrequency && ltb (updDriver T i) (driverCount T))
+updateBad T i = not (ltb (updateMode T i) (modeCount T) && inRange (updateFrequency T i) maxFrequency && ltb (updateDriver T i) (driverCount T))
 
 pub record UpdateFits (T : Tables) (i : ℕ) : Type 0 where
-  pub mode : updMode T i < modeCount T
-  pub frequency : InRange (updFrequency T i) maxFrequency
-  pub driver : updDriver T i < driverCount T
+  pub mode : updateMode T i < modeCount T
+  pub frequency : InRange (updateFrequency T i) maxFrequency
+  pub driver : updateDriver T i < driverCount T
 
 -- switches: a mode, a frequency, a target mode, a driver
 unfoldable pub switchBad : Tables → ℕ → Bool
 switchBad T i =
     not
-    (ltb (swMode T i) (modeCount T)
-    && inRange (swFrequency T i) maxFrequency
-    && ltb (swTarget T i) (modeCount T)
-    && ltb (swDriver T i) (driverCount T))
+    (ltb (switchMode T i) (modeCount T)
+    && inRange (switchFrequency T i) maxFrequency
+    && ltb (switchTarget T i) (modeCount T)
+    && ltb (switchDriver T i) (driverCount T))
 
 pub record SwitchFits (T : Tables) (i : ℕ) : Type 0 where
-  pub mode : swMode T i < modeCount T
-  pub frequency : InRange (swFrequency T i) maxFrequency
-  pub target : swTarget T i < modeCount T
-  pub driver : swDriver T i < driverCount T
+  pub mode : switchMode T i < modeCount T
+  pub frequency : InRange (switchFrequency T i) maxFrequency
+  pub target : switchTarget T i < modeCount T
+  pub driver : switchDriver T i < driverCount T
 
 unfoldable pub startBad : Tables → Bool
 startBad T = leb (modeCount T) (startMode T)

@@ -6,28 +6,28 @@ use mathlib.Core.Bool.{Bool, not, _&&_, _||_}
 use mathlib.Core.Logic.{_⊎_, _↔_}
 use lib.Dec.{eqb}
 use Rattle.theory.specs.Search.{any}
-use Rattle.program.specs.Tables.{Tables, sensor, actuator, input, output, taskPortCount, tpTask, tpPort, guardKind, guardPort, kindAlways}
-use Rattle.program.specs.Tables.{kindInterval, copyCount, copyDriver, copySource, copyDestination, modePortCount, mpMode, mpPort}
-use Rattle.program.specs.Tables.{invocationCount, invMode, invTask, invDriver, updateCount, updMode, updDriver, switchCount, swMode}
-use Rattle.program.specs.Tables.{swTarget, swDriver}
+use Rattle.program.specs.Tables.{Tables, sensor, actuator, input, output, taskPortCount, taskPortTask, taskPortPort, guardKind, guardPort, kindAlways}
+use Rattle.program.specs.Tables.{kindInterval, copyCount, copyDriver, copySource, copyDestination, modePortCount, modePortMode, modePortPort}
+use Rattle.program.specs.Tables.{invocationCount, invocationMode, invocationTask, invocationDriver, updateCount, updateMode, updateDriver, switchCount, switchMode}
+use Rattle.program.specs.Tables.{switchTarget, switchDriver}
 use Rattle.program.specs.Guard.{guardOf, meet, Meet}
 use Rattle.program.specs.Sets.{isKind, isInput, isOutput, isModePort, isDestination, Sensor, Actuator, Input, Output, ModePort, Source}
 use Rattle.program.specs.Sets.{Destination}
 
 -- row k of the task ports is one of task t, of this kind
 unfoldable pub ownPort : Tables → ℕ → ℕ → ℕ → Bool
-ownPort T kind t k = eqb (tpTask T k) t && isKind T kind (tpPort T k)
+ownPort T kind t k = eqb (taskPortTask T k) t && isKind T kind (taskPortPort T k)
 
 -- row k names an output of task t with a property, an input of task t, a port of mode m; row c names a source of driver d, a
 -- destination of driver d
 unfoldable pub outputWith : Tables → (ℕ → Bool) → ℕ → ℕ → Bool
-outputWith T bad t k = let b = bad (tpPort T k) in ownPort T output t k && b
+outputWith T bad t k = let b = bad (taskPortPort T k) in ownPort T output t k && b
 
 unfoldable pub inputWith : Tables → (ℕ → Bool) → ℕ → ℕ → Bool
-inputWith T bad t k = let b = bad (tpPort T k) in ownPort T input t k && b
+inputWith T bad t k = let b = bad (taskPortPort T k) in ownPort T input t k && b
 
 unfoldable pub portWith : Tables → (ℕ → Bool) → ℕ → ℕ → Bool
-portWith T bad m k = let b = bad (mpPort T k) in eqb (mpMode T k) m && b
+portWith T bad m k = let b = bad (modePortPort T k) in eqb (modePortMode T k) m && b
 
 unfoldable pub sourceWith : Tables → (ℕ → Bool) → ℕ → ℕ → Bool
 sourceWith T bad d c = let b = bad (copySource T c) in eqb (copyDriver T c) d && b
@@ -59,16 +59,16 @@ unreadable T m p = not (isModePort T m p || isKind T sensor p)
 -- the task's inputs; guard not always; two rows in a mode have one task or share an output
 unfoldable pub invocationClash : Tables → ℕ → ℕ → Bool
 invocationClash T i j =
-    let shared = someOutput T (isOutput T (invTask T j)) (invTask T i) in
-    eqb (invMode T j) (invMode T i) && (eqb (invTask T j) (invTask T i) || shared)
+    let shared = someOutput T (isOutput T (invocationTask T j)) (invocationTask T i) in
+    eqb (invocationMode T j) (invocationMode T i) && (eqb (invocationTask T j) (invocationTask T i) || shared)
 
 unfoldable pub invocationWrong : Tables → ℕ → Bool
 invocationWrong T i =
-    someOutput T (λ p. not (isModePort T (invMode T i) p)) (invTask T i)
-    || someSource T (unreadable T (invMode T i)) (invDriver T i)
-    || someDestination T (λ p. not (isInput T (invTask T i) p)) (invDriver T i)
-    || someInput T (λ p. not (isDestination T (invDriver T i) p)) (invTask T i)
-    || not (eqb (guardKind T (invDriver T i)) kindAlways)
+    someOutput T (λ p. not (isModePort T (invocationMode T i) p)) (invocationTask T i)
+    || someSource T (unreadable T (invocationMode T i)) (invocationDriver T i)
+    || someDestination T (λ p. not (isInput T (invocationTask T i) p)) (invocationDriver T i)
+    || someInput T (λ p. not (isDestination T (invocationDriver T i) p)) (invocationTask T i)
+    || not (eqb (guardKind T (invocationDriver T i)) kindAlways)
     || any (invocationClash T i) i
 
 unfoldable pub invocationsBad : Tables → Bool
@@ -76,30 +76,30 @@ invocationsBad T = any (invocationWrong T) (invocationCount T)
 
 pub record Invokes (T : Tables) (i : ℕ) : Type 0 where
   -- Out[t] ⊆ ModePorts[m]
-  pub outputs : (p : ℕ) → Output T (invTask T i) p → ModePort T (invMode T i) p
+  pub outputs : (p : ℕ) → Output T (invocationTask T i) p → ModePort T (invocationMode T i) p
   -- Src[d] ⊆ ModePorts[m] ∪ SensePorts
-  pub sources : (p : ℕ) → Source T (invDriver T i) p → ModePort T (invMode T i) p ⊎ Sensor T p
+  pub sources : (p : ℕ) → Source T (invocationDriver T i) p → ModePort T (invocationMode T i) p ⊎ Sensor T p
   -- Dst[d] = In[t]
-  pub destinations : (p : ℕ) → Destination T (invDriver T i) p ↔ Input T (invTask T i) p
-  pub guard : guardKind T (invDriver T i) ≡ kindAlways
+  pub destinations : (p : ℕ) → Destination T (invocationDriver T i) p ↔ Input T (invocationTask T i) p
+  pub guard : guardKind T (invocationDriver T i) ≡ kindAlways
 
 pub record Invocations (T : Tables) : Type 0 where
   pub each : (i : ℕ) → i < invocationCount T → Invokes T i
   -- t ≠ t′, and Out[t] ∩ Out[t′] = ∅
-  pub tasks-apart : (i j : ℕ) → j < i → i < invocationCount T → invMode T j ≡ invMode T i → invTask T j ≡ invTask T i → ⊥
-  pub outputs-apart : (i j p : ℕ) → j < i → i < invocationCount T → invMode T j ≡ invMode T i
-      → Output T (invTask T i) p → Output T (invTask T j) p → ⊥
+  pub tasks-apart : (i j : ℕ) → j < i → i < invocationCount T → invocationMode T j ≡ invocationMode T i → invocationTask T j ≡ invocationTask T i → ⊥
+  pub outputs-apart : (i j p : ℕ) → j < i → i < invocationCount T → invocationMode T j ≡ invocationMode T i
+      → Output T (invocationTask T i) p → Output T (invocationTask T j) p → ⊥
 
 -- 7, update: a source is no mode port, a destination no actuator, or two rows in a mode share a destination
 unfoldable pub updateClash : Tables → ℕ → ℕ → Bool
 updateClash T i j =
-    let shared = someDestination T (isDestination T (updDriver T j)) (updDriver T i) in
-    eqb (updMode T j) (updMode T i) && shared
+    let shared = someDestination T (isDestination T (updateDriver T j)) (updateDriver T i) in
+    eqb (updateMode T j) (updateMode T i) && shared
 
 unfoldable pub updateWrong : Tables → ℕ → Bool
 updateWrong T i =
-    someSource T (λ p. not (isModePort T (updMode T i) p)) (updDriver T i)
-    || someDestination T (λ p. not (isKind T actuator p)) (updDriver T i)
+    someSource T (λ p. not (isModePort T (updateMode T i) p)) (updateDriver T i)
+    || someDestination T (λ p. not (isKind T actuator p)) (updateDriver T i)
     || any (updateClash T i) i
 
 unfoldable pub updatesBad : Tables → Bool
@@ -107,22 +107,22 @@ updatesBad T = any (updateWrong T) (updateCount T)
 
 pub record Updates (T : Tables) : Type 0 where
   -- Src[d] ⊆ ModePorts[m], Dst[d] ⊆ ActPorts
-  pub sources : (i p : ℕ) → i < updateCount T → Source T (updDriver T i) p → ModePort T (updMode T i) p
-  pub destinations : (i p : ℕ) → i < updateCount T → Destination T (updDriver T i) p → Actuator T p
+  pub sources : (i p : ℕ) → i < updateCount T → Source T (updateDriver T i) p → ModePort T (updateMode T i) p
+  pub destinations : (i p : ℕ) → i < updateCount T → Destination T (updateDriver T i) p → Actuator T p
   -- Dst[d] ∩ Dst[d′] = ∅
-  pub apart : (i j p : ℕ) → j < i → i < updateCount T → updMode T j ≡ updMode T i
-      → Destination T (updDriver T i) p → Destination T (updDriver T j) p → ⊥
+  pub apart : (i j p : ℕ) → j < i → i < updateCount T → updateMode T j ≡ updateMode T i
+      → Destination T (updateDriver T i) p → Destination T (updateDriver T j) p → ⊥
 
 -- 8, switch: a source is neither a port of the old mode nor a sensor; destinations are not exactly the target's mode ports;
 -- two guards in a mode can hold for one valuation
 unfoldable pub switchClash : Tables → ℕ → ℕ → Bool
-switchClash T i j = eqb (swMode T j) (swMode T i) && meet (guardOf T (swDriver T j)) (guardOf T (swDriver T i))
+switchClash T i j = eqb (switchMode T j) (switchMode T i) && meet (guardOf T (switchDriver T j)) (guardOf T (switchDriver T i))
 
 unfoldable pub switchWrong : Tables → ℕ → Bool
 switchWrong T i =
-    someSource T (unreadable T (swMode T i)) (swDriver T i)
-    || someDestination T (λ p. not (isModePort T (swTarget T i) p)) (swDriver T i)
-    || somePort T (λ p. not (isDestination T (swDriver T i) p)) (swTarget T i)
+    someSource T (unreadable T (switchMode T i)) (switchDriver T i)
+    || someDestination T (λ p. not (isModePort T (switchTarget T i) p)) (switchDriver T i)
+    || somePort T (λ p. not (isDestination T (switchDriver T i) p)) (switchTarget T i)
     || any (switchClash T i) i
 
 unfoldable pub switchesBad : Tables → Bool
@@ -130,8 +130,8 @@ switchesBad T = any (switchWrong T) (switchCount T)
 
 pub record Switches (T : Tables) : Type 0 where
   -- Src[d] ⊆ ModePorts[m] ∪ SensePorts, Dst[d] = ModePorts[m′]
-  pub sources : (i p : ℕ) → i < switchCount T → Source T (swDriver T i) p → ModePort T (swMode T i) p ⊎ Sensor T p
-  pub destinations : (i p : ℕ) → i < switchCount T → Destination T (swDriver T i) p ↔ ModePort T (swTarget T i) p
+  pub sources : (i p : ℕ) → i < switchCount T → Source T (switchDriver T i) p → ModePort T (switchMode T i) p ⊎ Sensor T p
+  pub destinations : (i p : ℕ) → i < switchCount T → Destination T (switchDriver T i) p ↔ ModePort T (switchTarget T i) p
   -- for all valuations, g[d] or g[d′] is false
-  pub apart : (i j : ℕ) → j < i → i < switchCount T → swMode T j ≡ swMode T i
-      → Meet (guardOf T (swDriver T j)) (guardOf T (swDriver T i)) → ⊥
+  pub apart : (i j : ℕ) → j < i → i < switchCount T → switchMode T j ≡ switchMode T i
+      → Meet (guardOf T (switchDriver T j)) (guardOf T (switchDriver T i)) → ⊥

@@ -6,7 +6,7 @@ use mathlib.Core.Bool.{Bool, _&&_, _||_}
 use lib.Dec.{eqb, ltb}
 use Rattle.theory.specs.Search.{any}
 use Rattle.cells.specs.Limits.{maxUnits}
-use Rattle.program.specs.Tables.{Tables, modeCount, modePeriod, invocationCount, invMode, invFrequency, switchCount, swMode, swFrequency}
+use Rattle.program.specs.Tables.{Tables, modeCount, modePeriod, invocationCount, invocationMode, invocationFrequency, switchCount, switchMode, switchFrequency}
 use Rattle.program.specs.Units.{misses, units, Units}
 
 -- 9: the least common multiple of a mode's frequencies exceeds 64 or does not divide its period
@@ -27,7 +27,7 @@ UnitsFit T = (m : ℕ) → m < modeCount T → ModeUnits T m
 
 -- 10: in a mode, task frequency divided by switch frequency is not whole
 unfoldable pub notWhole : Tables → ℕ → ℕ → Bool
-notWhole T s i = eqb (invMode T i) (swMode T s) && misses (invFrequency T i) (swFrequency T s)
+notWhole T s i = eqb (invocationMode T i) (switchMode T s) && misses (invocationFrequency T i) (switchFrequency T s)
 
 unfoldable pub wholeWrong : Tables → ℕ → Bool
 wholeWrong T s = any (notWhole T s) (invocationCount T)
@@ -36,4 +36,4 @@ unfoldable pub wholeBad : Tables → Bool
 wholeBad T = any (wholeWrong T) (switchCount T)
 
 abbrev pub Whole : Tables → Type 0
-Whole T = (s i : ℕ) → s < switchCount T → i < invocationCount T → invMode T i ≡ swMode T s → swFrequency T s ∣ invFrequency T i
+Whole T = (s i : ℕ) → s < switchCount T → i < invocationCount T → invocationMode T i ≡ switchMode T s → switchFrequency T s ∣ invocationFrequency T i

@@ -9,7 +9,7 @@ use lib.IntN.{ℤ}
 use Rattle.theory.specs.Lists.{Put, puts, those}
 use Rattle.theory.proofs.Lists.{map-those}
 use Rattle.cells.specs.Cell.{rowsIn}
-use Rattle.program.specs.Tables.{Tables, output, taskPortWidth, taskPortCount, tpPort, copyWidth, copyCount, copyDriver}
+use Rattle.program.specs.Tables.{Tables, output, taskPortWidth, taskPortCount, taskPortPort, copyWidth, copyCount, copyDriver}
 use Rattle.program.specs.Guard.{guardOf, holds}
 use Rattle.program.specs.Program.{copyRow, driverRow, portsOf}
 use Rattle.program.specs.Ports.{valueOf, takes, moves, drive}
@@ -43,4 +43,4 @@ module _ (T : Tables) where
   unfolding isOutputRow
   outputs-all t lent v taskPorts e =
       ap (λ (l : List ℤ). puts (those (isOutputRow T t) (outputPut T lent) (rowsIn taskPortWidth l) 0) v) (sym e)
-      ∙ ap (λ (l : List Put). puts l v) (sym (map-those _ (isOutputRow T t) (tpPort T) (taskPortCount T) 0))
+      ∙ ap (λ (l : List Put). puts l v) (sym (map-those _ (isOutputRow T t) (taskPortPort T) (taskPortCount T) 0))

@@ -6,7 +6,7 @@ use lib.Dec.{eqb}
 use lib.IntN.{ℤ}
 use lib.ListN.{set}
 use Rattle.theory.specs.Lists.{Put, puts}
-use Rattle.program.specs.Tables.{Tables, output, tpTask, tpPort, copySource, copyDestination}
+use Rattle.program.specs.Tables.{Tables, output, taskPortTask, taskPortPort, copySource, copyDestination}
 use Rattle.program.specs.Sets.{isKind}
 use Rattle.program.specs.Program.{driverRow}
 use Rattle.program.specs.Ports.{valueOf, copyPuts}
@@ -25,8 +25,8 @@ copied T d v = puts (copyPuts v (driverRow T d)) v
 
 -- row k of the task ports is an output of task t
 unfoldable pub isOutputRow : Tables → ℕ → ℕ → Bool
-isOutputRow T t k = eqb (tpTask T k) t && isKind T output (tpPort T k)
+isOutputRow T t k = eqb (taskPortTask T k) t && isKind T output (taskPortPort T k)
 
 -- it takes its value among those lent
 abbrev pub outputPut : Tables → List ℤ → ℕ → Put
-outputPut T lent k = record { place = tpPort T k; value = valueOf lent (tpPort T k) }
+outputPut T lent k = record { place = taskPortPort T k; value = valueOf lent (taskPortPort T k) }

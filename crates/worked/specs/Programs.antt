@@ -58,11 +58,11 @@ guarded one other =
 
 -- period 12, a task and a switch of these frequencies
 abbrev pub switching : ℕ → ℕ → Tables
-switching taskFrequency switchFrequency =
+switching perTask perSwitch =
     tables [] (numbers (0 ∷ 1 ∷ [])) [] alwaysRow [] (numbers (12 ∷ [])) []
-    (numbers (0 ∷ taskFrequency ∷ 0 ∷ 0 ∷ []))
+    (numbers (0 ∷ perTask ∷ 0 ∷ 0 ∷ []))
     []
-    (numbers (0 ∷ switchFrequency ∷ 0 ∷ 0 ∷ []))
+    (numbers (0 ∷ perSwitch ∷ 0 ∷ 0 ∷ []))
     (pos 0)
 
 -- F's schedule code: in both blocks, at addresses 9 and 15, dispatch one task, then the other, all timeouts 5

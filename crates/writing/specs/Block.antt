@@ -5,7 +5,7 @@ use lib.IntN.{ℤ}
 use lib.ListN.{length}
 use Rattle.cells.specs.Cell.{greatestWord}
 use Rattle.cells.specs.Limits.{maxSwitches, firstOutputCall}
-use Rattle.program.specs.Tables.{Tables, invocationWidth, invocationTask, invocationDriver, updateWidth, updateDriver}
+use Rattle.program.specs.Tables.{Tables, invocationWidth, invocationTaskColumn, invocationDriverColumn, updateWidth, updateDriverColumn}
 use Rattle.program.specs.Sets.{sensorRows}
 use Rattle.code.specs.Op.{future, return, callNumber, scheduleNumber}
 use Rattle.code.specs.Listing.{testsOf}
@@ -20,16 +20,16 @@ use Rattle.writing.specs.declared.blocks.Aim.{Aim}
 
 -- the output copy of a task, a due update, a task driver, a schedule
 abbrev pub outputForm : Form
-outputForm = record { width = invocationWidth; column = invocationTask; number = callNumber; base = firstOutputCall }
+outputForm = record { width = invocationWidth; column = invocationTaskColumn; number = callNumber; base = firstOutputCall }
 
 abbrev pub updateForm : Form
-updateForm = record { width = updateWidth; column = updateDriver; number = callNumber; base = 0 }
+updateForm = record { width = updateWidth; column = updateDriverColumn; number = callNumber; base = 0 }
 
 abbrev pub driverForm : Form
-driverForm = record { width = invocationWidth; column = invocationDriver; number = callNumber; base = 0 }
+driverForm = record { width = invocationWidth; column = invocationDriverColumn; number = callNumber; base = 0 }
 
 abbrev pub scheduleForm : Form
-scheduleForm = record { width = invocationWidth; column = invocationTask; number = scheduleNumber; base = 0 }
+scheduleForm = record { width = invocationWidth; column = invocationTaskColumn; number = scheduleNumber; base = 0 }
 
 -- the numbers in a block fit words, and so does the address of each of its stubs
 pub record Aimed (aim : Aim) : Type 0 where

@@ -5,7 +5,7 @@ use mathlib.Core.List.{List, [], _∷_}
 use lib.IntN.{ℤ}
 use lib.ListN.{getD}
 use Rattle.cells.specs.Cell.{namedAt, greatestWord}
-use Rattle.program.specs.Tables.{rowFrequency, switchWidth, switchTarget, switchDriver}
+use Rattle.program.specs.Tables.{rowFrequency, switchWidth, switchTargetColumn, switchDriverColumn}
 use Rattle.program.specs.Program.{Switch}
 use Rattle.code.specs.Op.{Op, jump}
 use Rattle.code.specs.Listing.{callDriver}
@@ -14,7 +14,7 @@ use Rattle.writing.specs.declared.rows.Instant.{Instant}
 
 -- the switch that row i says
 abbrev pub switchIn : List ℤ → ℕ → Switch
-switchIn t i = record { frequency = rowFrequency switchWidth t i; target = namedAt switchWidth switchTarget t i; driver = namedAt switchWidth switchDriver t i }
+switchIn t i = record { frequency = rowFrequency switchWidth t i; target = namedAt switchWidth switchTargetColumn t i; driver = namedAt switchWidth switchDriverColumn t i }
 
 -- the switches that are due
 abbrev pub switchesIn : List ℤ → Instant → List Switch

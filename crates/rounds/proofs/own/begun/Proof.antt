@@ -8,7 +8,7 @@ use lib.Seq.{set-out}
 use borrow.Author.Needs.{needs}
 use Rattle.cells.specs.Cell.{fieldAt}
 use Rattle.cells.specs.Limits.{maxTasks}
-use Rattle.program.specs.Tables.{taskWidth, taskTime}
+use Rattle.program.specs.Tables.{taskWidth, taskWorstColumn}
 use Rattle.rounds.proofs.own.begun.Statement.{statement}
 use Rattle.rounds.proofs.own.begun.Tie as tie
 
@@ -29,7 +29,7 @@ returns c =
     let s = c .before .before in
     let a = s .before .args in
     ap (set (a .left) (s .index .result)) (c .field .ensures)
-    ∙ ap (λ (j : ℕ). set (a .left) j (fieldAt taskWidth taskTime (now (a .tasks)) j)) (s .index .ensures)
+    ∙ ap (λ (j : ℕ). set (a .left) j (fieldAt taskWidth taskWorstColumn (now (a .tasks)) j)) (s .index .ensures)
 
 returns-2 : tie.Need-returns-2
 returns-2 c =

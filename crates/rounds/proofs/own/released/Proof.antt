@@ -4,7 +4,7 @@ use mathlib.Core.Path.{_∙_}
 use mathlib.Core.Logic.{⊎-elim}
 use borrow.Author.Needs.{needs}
 use Rattle.cells.specs.Cell.{rowsIn, fieldAt, namedAt}
-use Rattle.program.specs.Tables.{taskWidth, taskTime, invocationWidth, invocationTask}
+use Rattle.program.specs.Tables.{taskWidth, taskWorstColumn, invocationWidth, invocationTaskColumn}
 use Rattle.rounds.specs.Course.{ownDue}
 use Rattle.rounds.proofs.Releases.{Releasing, releasing-none, releasing-one, releasing-no, releasing-all}
 use Rattle.rounds.proofs.own.released.Statement.{statement}
@@ -12,8 +12,8 @@ use Rattle.rounds.proofs.own.released.Tie as tie
 
 abbrev Inv-loop : tie.InvT-loop
 Inv-loop tasks invocations supplier m u k n rest₀ i₀ rest i =
-    Releasing (ownDue tasks invocations supplier (m .0) u k) (namedAt invocationWidth invocationTask invocations) (rowsIn invocationWidth invocations)
-    (fieldAt taskWidth taskTime tasks) rest₀ i rest
+    Releasing (ownDue tasks invocations supplier (m .0) u k) (namedAt invocationWidth invocationTaskColumn invocations) (rowsIn invocationWidth invocations)
+    (fieldAt taskWidth taskWorstColumn tasks) rest₀ i rest
 
 abbrev μ-loop : tie.MeasureT-loop
 μ-loop tasks invocations supplier m u k n rest₀ i₀ rest i = rowsIn invocationWidth invocations - i

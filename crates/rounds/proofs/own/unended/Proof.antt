@@ -2,7 +2,7 @@
 use Prim.Native.Nat.{_-_}
 use borrow.Author.Needs.{needs}
 use Rattle.cells.specs.Cell.{rowsIn, namedAt}
-use Rattle.program.specs.Tables.{invocationWidth, invocationTask}
+use Rattle.program.specs.Tables.{invocationWidth, invocationTaskColumn}
 use Rattle.rounds.specs.Course.{ownDue}
 use Rattle.rounds.proofs.Releases.{Seeking, seeking-none, seeking-found, seeking-more, seeking-all}
 use Rattle.rounds.proofs.own.unended.Statement.{statement}
@@ -10,7 +10,7 @@ use Rattle.rounds.proofs.own.unended.Tie as tie
 
 abbrev Inv-loop : tie.InvT-loop
 Inv-loop tasks invocations supplier m u k left n i₀ i =
-    Seeking (ownDue tasks invocations supplier (m .0) u k) (namedAt invocationWidth invocationTask invocations) (rowsIn invocationWidth invocations) left i
+    Seeking (ownDue tasks invocations supplier (m .0) u k) (namedAt invocationWidth invocationTaskColumn invocations) (rowsIn invocationWidth invocations) left i
 
 abbrev μ-loop : tie.MeasureT-loop
 μ-loop tasks invocations supplier m u k left n i₀ i = rowsIn invocationWidth invocations - i

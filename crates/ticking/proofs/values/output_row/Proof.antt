@@ -5,7 +5,7 @@ use denote.Ref.{now}
 use lib.Dec.{eqb}
 use borrow.Author.Needs.{needs}
 use Rattle.cells.proofs.Ints.{back}
-use Rattle.program.specs.Tables.{Tables, tpPort}
+use Rattle.program.specs.Tables.{Tables, taskPortPort}
 use Rattle.program.specs.Ports.{valueOf}
 use Rattle.ticking.specs.Values.{isOutputRow, outputPut}
 use Rattle.ticking.proofs.Rowwise.{row-put, row-kept}
@@ -61,8 +61,8 @@ returns c T e f =
     let k = v .before .before .before .before .before in
     let port = k .before .before .before .port in
     let a = start k .args in
-    let place : at .result ≡ tpPort T (a .k) = simp (at .ensures, port .ensures, f) in
-    let value : v .value .result ≡ valueOf (now (a .lent)) (tpPort T (a .k)) =
+    let place : at .result ≡ taskPortPort T (a .k) = simp (at .ensures, port .ensures, f) in
+    let value : v .value .result ≡ valueOf (now (a .lent)) (taskPortPort T (a .k)) =
     simp (v .value .ensures, v .before .index4 .ensures, port .ensures, f) in
     c .before .put-value .ensures
     ∙ row-put _ (outputPut T (now (a .lent)) (a .k)) (now (a .values)) _ _ (own k T e f ∙ v .before .before .before .before .if1 .taken) place
