@@ -11,7 +11,7 @@ function read_constants(file,    word, module, name, value) {
     module = ""
     while (next_line()) {
         split(text, word, " ")
-        if (word[1] != "pub") continue
+        if (word[1] !~ /^pub(\(crate\))?$/) continue
         if (word[2] == "mod") module = word[3] "."
         if (word[2] != "const") continue
         name = module word[3]

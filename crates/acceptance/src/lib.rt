@@ -5,21 +5,21 @@ ghost use Rattle.program.specs.Tables.{tablesIn};
 ghost use Rattle.rules.specs.Shape.{InShape};
 ghost use Rattle.suppliers.specs.Windows.{windowsShapeBad, windowsVerdict};
 ghost use Rattle.suppliers.specs.Supplier.{supplierVerdict};
-ghost use Rattle.acceptance.specs.Lent.{windowed, asked, shapedVerdict, refusal};
+ghost use Rattle.acceptance.specs.Judged.{windowed, asked, shapedVerdict, refusal};
 use cells::columns::schedule;
 use cells::columns::window;
 use cells::limits::Program;
 use cells::refusals;
 use cells::table;
 use cells::tables;
-use fields::slices;
 use layout::counts;
 use rounds::every_mode;
+use rules_1_2::slices;
 use suppliers::Answer;
 use suppliers::parts;
 use suppliers::window_rows;
 
-// Number 1 of tables and windows, whatever the start mode.
+// Number 1 applies to the tables or the windows, whatever the start mode.
 fn shape_bad(tables: &[&[i32]; Program::TABLES], windows: &[i32]) -> bool
     ensures { λ r. ⌜ ((start : ℤ) → let T = tablesIn (now (tables .entry)) start in
         r ≡ windowsShapeBad (windowed T (now (windows .entry)))) ⌝ }
@@ -27,12 +27,12 @@ fn shape_bad(tables: &[&[i32]; Program::TABLES], windows: &[i32]) -> bool
     slices::shape_bad(tables) | slices::bad_slice(windows, window::WIDTH, Program::WINDOWS)
 }
 
-// Numbers 2 to 12 of tables and windows that have their shape.
+// The first of numbers 2 to 12 that applies to tables and windows that have their shape; 0 where none does.
 fn shaped_verdict(tables: &[&[i32]; Program::TABLES], program: Program, windows: &[i32]) -> usize
     requires { ⌜ InShape (now tables) ⌝ }
     ensures { λ r. ⌜ r ≡ shapedVerdict (windowed (tablesIn (now (tables .entry)) (program .start)) (now (windows .entry))) ⌝ }
 {
-    let number = lent::lent_verdict(tables, program);
+    let number = verdict_2_11::tables_and_code(tables, program);
     if refusals::ACCEPTED < number {
         return number;
     }
@@ -43,7 +43,7 @@ fn shaped_verdict(tables: &[&[i32]; Program::TABLES], program: Program, windows:
     refusals::ACCEPTED
 }
 
-// An answer without a place.
+// The answer that has this number and no place.
 fn refusal(number: usize) -> Answer
     ensures { λ r. ⌜ r ≡ refusal number ⌝ }
 {
@@ -54,7 +54,7 @@ fn refusal(number: usize) -> Answer
     }
 }
 
-// The windows verdict, 1 to 12. Any slices at all may be lent.
+// The windows verdict: the first of numbers 1 to 12 that applies, or 0. Any slices at all may be lent.
 pub fn windows_verdict(
     tables: &[&[i32]; Program::TABLES],
     program: Program,

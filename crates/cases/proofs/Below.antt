@@ -1,4 +1,4 @@
--- A number below 0: one more than it, and 0 less that, are of 32 bits too. Assumes nothing.
+-- A number below 0: one more than it, and 0 less that, are of 32 bits too.
 use Prim.Native.Nat.{ℕ, zero, suc, _-_}
 use mathlib.Core.Path.{_≡_, sym, ap, subst, _∙_}
 use mathlib.Core.Bool.{Bool, true, cond}

@@ -1,5 +1,5 @@
 -- A slice that is longer than its buffer, of one row more than the limit or one number more than the length that it must have, is number 1,
--- whole and cut to the buffer. Assumes nothing.
+-- whole and cut to the buffer.
 use Prim.Native.Nat.{ℕ, _+_, _*_, _/_, _%_, _≤_, _<_}
 use mathlib.Core.Path.{_≡_, refl, ap}
 use mathlib.Core.Bool.{true, not, or-true}
@@ -23,7 +23,7 @@ module _ {A : Type 0} (width limit : ℕ) (some : 1 ≤ width) where
       let more : ltb limit (length t / width) ≡ true = lt-ltb limit (length t / width) (omega arith) in
       simp more (or-true (not (eqb (length t % width) 0)))
 
-  -- and so is what a buffer of so many rows, or more, keeps of it
+  -- a buffer of so many rows, or more, keeps of a slice that is too long one that is too long
   pub cut-too-long : (cap : ℕ) (t : List A) → (limit + 1) * width ≤ cap → cap < length t
       → (badSlice width limit (take cap t) ≡ true) × (badSlice width limit t ≡ true)
   cut-too-long cap t h l = (too-long (take cap t) (simp length-take (omega arith)), too-long t (omega arith))
@@ -43,7 +43,7 @@ ten = replicate (maxModes + 2) 0
 ten-modes : (badSlice modeWidth maxModes (take (maxModes + 1) ten) ≡ true) × (badSlice modeWidth maxModes ten ≡ true)
 ten-modes = cut-too-long modeWidth maxModes (omega arith) (maxModes + 1) ten (omega arith) (let many : length ten ≡ maxModes + 2 = refl in omega arith)
 
--- and of 66 readings there is room for 65, and either way they are not 64
+-- of 66 readings there is room for 65, and either way they are not 64
 abbrev many-readings : List ℕ
 many-readings = replicate (maxPorts + 2) 0
 

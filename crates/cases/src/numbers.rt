@@ -3,22 +3,25 @@ use crate::stream;
 use crate::stream::Reader;
 use cells::table;
 
+// A signed number that was read.
 pub struct Number {
     pub reader: Reader,
     pub value: i32,
 }
 
+// A number of at most 32 bits, without a sign, that was read.
 pub struct Natural {
     pub reader: Reader,
     pub value: u32,
 }
 
-// How many follow.
+// A count that was read: how many numbers, cases or ticks follow.
 pub struct Amount {
     pub reader: Reader,
     pub value: usize,
 }
 
+// Reads a signed number.
 pub fn signed(r: Reader, buffer: &mut [u8]) -> Number {
     if !r.ok {
         return Number {
@@ -38,6 +41,7 @@ pub fn signed(r: Reader, buffer: &mut [u8]) -> Number {
     }
 }
 
+// Reads a number without a sign.
 pub fn unsigned(r: Reader, buffer: &mut [u8]) -> Natural {
     if !r.ok {
         return Natural {
@@ -57,7 +61,7 @@ pub fn unsigned(r: Reader, buffer: &mut [u8]) -> Natural {
     }
 }
 
-// A number that counts what follows; one below 0 is refused.
+// Reads a count of what follows; one below 0 is refused.
 pub fn count(r: Reader, buffer: &mut [u8]) -> Amount {
     let number = signed(r, buffer);
     let reader = number.reader;
@@ -73,7 +77,7 @@ pub fn count(r: Reader, buffer: &mut [u8]) -> Amount {
     }
 }
 
-// Nothing may follow.
+// Reads the end of the file; the reader is refused where a line follows.
 pub fn finish(r: Reader, buffer: &mut [u8]) -> Reader {
     if !r.ok {
         return r;

@@ -1,20 +1,21 @@
-// What is printed: lines; and what became of a case. Each function answers whether all of it was written.
+// Lines that are printed, and what became of a case. Each function answers whether all of it was written.
 use crate::stream::Reader;
 use cells::table;
 use libc::STDOUT_FILENO;
 
 // What became of a case: whether its kind is known, and whether its line could be written.
-pub struct Answer {
+pub struct Outcome {
     pub reader: Reader,
     pub known: bool,
     pub written: bool,
 }
 
-// A number's digits; after a space; the end of a line.
+// Prints a number's digits.
 pub fn digits(n: usize) -> bool {
     io::print_decimal(STDOUT_FILENO, n as u64)
 }
 
+// Prints a space and a number's digits.
 pub fn after_space(n: usize) -> bool {
     if !io::write_all(STDOUT_FILENO, b" ") {
         return false;
@@ -22,7 +23,7 @@ pub fn after_space(n: usize) -> bool {
     digits(n)
 }
 
-// A signed number's digits after a space; the least one of 32 bits too.
+// Prints a space and a signed number's digits; of the least one of 32 bits too.
 pub fn signed_after_space(n: i32) -> bool {
     if n < 0 {
         if !io::write_all(STDOUT_FILENO, b" -") {
@@ -34,11 +35,12 @@ pub fn signed_after_space(n: i32) -> bool {
     after_space(table::index(n))
 }
 
+// Prints the end of a line.
 pub fn line_end() -> bool {
     io::write_all(STDOUT_FILENO, b"\n")
 }
 
-// A number on a line.
+// Prints a number on a line.
 pub fn number(n: usize) -> bool {
     if !digits(n) {
         return false;
@@ -46,7 +48,7 @@ pub fn number(n: usize) -> bool {
     line_end()
 }
 
-// What is to be said of a file, and its name.
+// Prints on a line what is to be said of a file, and its name.
 pub fn say(what: &[u8], name: &[u8]) -> bool {
     if !io::write_all(STDOUT_FILENO, what) {
         return false;

@@ -42,12 +42,12 @@ pub const SCHEDULE: usize = (Program::SCHEDULE + 1) * schedule::WIDTH;
 
 pub const CODE: usize = (Program::CODE + 1) * Program::WORDS;
 
-// What is lent to a tick, by port and by task.
+// How many numbers there is room for of what is lent to a tick: by port (readings, results), and by task (times).
 pub const BY_PORT: usize = Program::PORTS + 1;
 
 pub const BY_TASK: usize = Program::TASKS + 1;
 
-// A program's ten tables lie one after the other in one room. Where each begins:
+// Where each of a program's ten tables begins, as they lie one after the other in one room.
 pub const PORTS_AT: usize = 0;
 
 pub const TASKS_AT: usize = PORTS_AT + PORTS;
@@ -68,10 +68,10 @@ pub const UPDATES_AT: usize = INVOCATIONS_AT + INVOCATIONS;
 
 pub const SWITCHES_AT: usize = UPDATES_AT + UPDATES;
 
-// The whole.
+// How many numbers there is room for in all ten tables.
 pub const ALL: usize = SWITCHES_AT + SWITCHES;
 
-// Each ends where the next begins.
+// Where each of the ten tables ends: where the next begins.
 pub const ENDS: [usize; Program::TABLES] = [
     TASKS_AT,
     TASK_PORTS_AT,

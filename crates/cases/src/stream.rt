@@ -11,13 +11,14 @@ pub struct Reader {
     pub failed: bool,
 }
 
-// A line's bytes as a number, or `ended`: no byte was left.
+// A line that was read: its bytes as a number, or `ended` where no byte was left.
 pub struct Line {
     pub reader: Reader,
     pub part: Part,
     pub ended: bool,
 }
 
+// A reader of a file, before its first byte.
 pub fn open(fd: i32) -> Reader {
     Reader {
         fd,
@@ -28,14 +29,14 @@ pub fn open(fd: i32) -> Reader {
     }
 }
 
-// The reader with what must have stood there missing.
+// The reader, refused: something that had to stand there does not.
 pub fn refused(r: Reader) -> Reader {
     let mut after = r;
     after.ok = false;
     after
 }
 
-// One read, where all bytes of the buffer are used up. With nothing left to read, there is no next byte either.
+// Reads on where all bytes of the buffer are used up. With nothing left to read, there is no next byte either.
 fn filled(r: Reader, buffer: &mut [u8]) -> Reader {
     if r.at < r.len {
         return r;
@@ -51,7 +52,7 @@ fn filled(r: Reader, buffer: &mut [u8]) -> Reader {
     after
 }
 
-// The byte at a place; past the end one that fits in no number.
+// The byte at a place of the buffer; past the end one that fits in no number.
 fn byte(buffer: &[u8], at: usize) -> u8 {
     if at < buffer.len() {
         return buffer[at];
@@ -59,7 +60,7 @@ fn byte(buffer: &[u8], at: usize) -> u8 {
     0
 }
 
-// The next line; the last line end may be missing. A line of more bytes than can be counted is no number.
+// Reads the next line; the last line end may be missing. A line of more bytes than can be counted is no number.
 pub fn next(r: Reader, buffer: &mut [u8]) -> Line {
     let mut reader = r;
     let mut part = Part::new();

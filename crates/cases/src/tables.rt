@@ -9,21 +9,21 @@ use cells::parts::least;
 use cells::parts::part;
 use cells::table;
 
-// How many of a slice's numbers were kept.
+// What was read of a slice: how many of its numbers were kept.
 pub struct Kept {
     pub reader: Reader,
     pub len: usize,
 }
 
-// A program's start mode, and how many numbers of each table were kept.
+// What was read of a program: its start mode, and how many numbers of each table were kept.
 pub struct Lengths {
     pub reader: Reader,
     pub program: Program,
     pub len: [usize; Program::TABLES],
 }
 
-// The next number put at a place: a value, or a word.
-fn next(
+// Reads the next number and puts it at a place: among the values if it is `signed`, else among the words.
+fn put_next(
     r: Reader,
     buffer: &mut [u8],
     at: usize,
@@ -41,7 +41,7 @@ fn next(
     number.reader
 }
 
-// A slice's numbers, n of them: values, or words.
+// Reads the n numbers of a slice, as many as there is room for: values if they are `signed`, else words.
 fn fill(
     r: Reader,
     buffer: &mut [u8],
@@ -53,7 +53,7 @@ fn fill(
     let mut reader = r;
     let mut i = 0;
     while i < n {
-        reader = next(reader, buffer, i, values, words, signed);
+        reader = put_next(reader, buffer, i, values, words, signed);
         if !reader.ok {
             return reader;
         }
@@ -62,7 +62,7 @@ fn fill(
     reader
 }
 
-// Of n numbers those that there is room for; of a refused reader none.
+// How many of n numbers are kept: those that there is room for; none where the reader is refused.
 fn cut(reader: Reader, n: usize, room: usize) -> Kept
     ensures { λ r. ⌜ r .len ≤ room ⌝ }
 {
@@ -75,7 +75,7 @@ fn cut(reader: Reader, n: usize, room: usize) -> Kept
     }
 }
 
-// A slice of values: its length, then its numbers.
+// Reads a slice of values: its length, then its numbers.
 pub fn slice(r: Reader, buffer: &mut [u8], out: &mut [i32]) -> Kept
     ensures { λ r. ⌜ r .len ≤ length (now (out .exit)) ⌝ }
 {
@@ -85,7 +85,7 @@ pub fn slice(r: Reader, buffer: &mut [u8], out: &mut [i32]) -> Kept
     cut(reader, amount.value, out.len())
 }
 
-// A slice of words of E code.
+// Reads a slice of words of E code: its length, then its words.
 pub fn words(r: Reader, buffer: &mut [u8], out: &mut [u32]) -> Kept
     ensures { λ r. ⌜ r .len ≤ length (now (out .exit)) ⌝ }
 {
@@ -95,14 +95,14 @@ pub fn words(r: Reader, buffer: &mut [u8], out: &mut [u32]) -> Kept
     cut(reader, amount.value, out.len())
 }
 
-// A slice into its place, which ends where the next begins; as much of it as is in the room.
+// Reads a slice into its place in the room, from `at` up to `next`, where the next one begins.
 fn placed(r: Reader, buffer: &mut [u8], room: &mut [i32], at: usize, next: usize) -> Kept {
     let end = least(next, room.len());
     let from = least(at, end);
     slice(r, buffer, &mut room[from..end])
 }
 
-// A program: its start mode, then its ten tables, each into its place.
+// Reads a program: its start mode, then its ten tables, each into its place in the room.
 pub fn program(r: Reader, buffer: &mut [u8], room: &mut [i32]) -> Lengths {
     let start = numbers::signed(r, buffer);
     let mut reader = start.reader;
@@ -125,7 +125,7 @@ pub fn program(r: Reader, buffer: &mut [u8], room: &mut [i32]) -> Lengths {
 }
 
 // The tables of a program that was read, as they lie in the room.
-pub fn lent(l: Lengths, room: &[i32]) -> [&[i32]; Program::TABLES] {
+pub fn tables_in(l: Lengths, room: &[i32]) -> [&[i32]; Program::TABLES] {
     let len = l.len;
     let mut tables = [room; Program::TABLES];
     let mut at = 0;

@@ -1,4 +1,4 @@
--- A part of a list that is cut to what there is: the same as the part itself. Assumes nothing.
+-- A part of a list that is cut to what there is: the same as the part itself.
 use Prim.Native.Nat.{ℕ, zero, suc, _+_, _-_, _≤_, min}
 use mathlib.Core.Path.{_≡_, sym, ap, _∙_}
 use mathlib.Core.List.{List, [], _∷_}
@@ -25,7 +25,7 @@ module _ {A : Type 0} where
       go (yes h) = let e : min n (length l) ≡ n = omega arith in ap (λ (k : ℕ). take k l) e
       go (no h) = take-all (min n (length l)) l (omega arith) ∙ sym (take-all n l (omega arith))
 
-  -- the part between
+  -- the part between two places, cut to what there is
   pub part-is : (at n from k : ℕ) (l : List A) → from ≡ min at (length l) → k ≡ min n (length l - from)
       → take (from + k - from) (drop from l) ≡ take n (drop at l)
   part-is at n from k l e f =

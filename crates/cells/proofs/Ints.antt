@@ -1,5 +1,4 @@
 -- Signed numbers: what the bits of one say, when two are equal, and the number that each names.
--- Assumes nothing.
 use Prim.Native.Nat.{ℕ, suc, _<_, _≤_, _-_, _^_}
 use mathlib.Core.Path.{_≡_, refl, sym, ap, ap₂, _∙_}
 use mathlib.Core.Bool.{true, false}
@@ -24,7 +23,7 @@ back z f = toZ-ofZ {w = w32} (record { sfits = f })
 pub back₂ : {A : Type 0} (f : ℤ → ℤ → A) (x y : ℤ) → mag x < 2147483648 → mag y < 2147483648 → f (toZ w32 (ofZ w32 x)) (toZ w32 (ofZ w32 y)) ≡ f x y
 back₂ f x y g h = ap₂ f (back x g) (back y h)
 
--- the same of three: what a caller of `within` wants
+-- what a function of three signed numbers says of the three that it was passed
 pub back₃ : {A : Type 0} (f : ℤ → ℤ → ℤ → A) (x y z : ℤ) → mag x < 2147483648 → mag y < 2147483648 → mag z < 2147483648
     → f (toZ w32 (ofZ w32 x)) (toZ w32 (ofZ w32 y)) (toZ w32 (ofZ w32 z)) ≡ f x y z
 back₃ f x y z g h k = back₂ (λ (p q : ℤ). f p q (toZ w32 (ofZ w32 z))) x y g h ∙ ap (f x y) (back z k)
@@ -48,7 +47,7 @@ eqZ-says (negsuc a) (pos b) = record { yes = λ e. clash {b = false} e refl; no 
 eqZ-says (negsuc a) (negsuc b) =
     record { yes = λ e. ap negsuc (eqb-true a b e); no = λ e p. eqb-false a b e (ap mag p) }
 
--- and where each is at most the other
+-- two numbers are equal where each is at most the other
 pub le-antisym : (a b : ℤ) → a ≤Z b → b ≤Z a → a ≡ b
 le-antisym (pos a) (pos b) h k = ap pos (omega (arith, leb-true a b h, leb-true b a k))
 le-antisym (pos a) (negsuc b) h k = clash {b = false} h refl
@@ -60,7 +59,7 @@ pub index-neg : (z : ℤ) → ltZ z (pos 0) ≡ true → indexOf z ≡ 214748364
 index-neg (pos n) e = absurd (omega (arith, ltb-true n 0 e))
 index-neg (negsuc n) e = refl
 
--- any other number names itself
+-- a number that is not negative names itself
 pub index-pos : (z : ℤ) → ltZ z (pos 0) ≡ false → T (nonNeg z) × (natAbs z ≡ indexOf z)
 index-pos (pos n) e = (tt, refl)
 index-pos (negsuc n) e = clash {b = true} refl e

@@ -3,5 +3,4 @@ pub mod Ints
 pub mod Names
 pub mod Place
 pub mod Rows
-pub mod Readings
 pub mod Held

@@ -1,5 +1,4 @@
 -- Numbers that name rows: which numbers of a table do, and which name what.
--- Assumes nothing.
 use Prim.Native.Nat.{ℕ, suc, _+_, _<_, _≤_}
 use mathlib.Core.Path.{_≡_, refl, ap}
 use mathlib.Core.Bool.{Bool, true, false}
@@ -33,7 +32,7 @@ plus-one n = omega arith
 pub next-name : (n : ℕ) {k : ℕ} → n < k → k < unnamed → nameOf (suc n) ≡ suc n
 next-name n l h = name-small (suc n) (omega arith)
 
--- any other number names unnamed
+-- a number from `unnamed` on names nothing
 pub name-unnamed : (n : ℕ) → unnamed ≤ n → nameOf n ≡ unnamed
 unfolding nameOf
 name-unnamed n h = simp (le-ltb n unnamed h)

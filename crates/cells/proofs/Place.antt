@@ -1,5 +1,4 @@
 -- The place of a column of a row: it does not wrap, and past the last row it is past the end of the table.
--- Assumes nothing.
 use Prim.Native.Nat.{ℕ, _+_, _*_, _^_, _<_, _≤_}
 use mathlib.Core.Path.{_≡_, ap, _∙_}
 use mathlib.Core.List.{List}
@@ -13,7 +12,7 @@ module _ {width column row n : ℕ} (c : Column width column) where
   pub place-fits : row < n → n * 4 < 2 ^ 63 → row * width + column < 2 ^ 64
   place-fits l f = omega (arith, mul-le-mul-left row (c .few), c .within)
 
-  -- the place of a row from there on
+  -- the place of a row from the length of the slice on
   pub place-past : n ≤ row → n ≤ row * width + column
   place-past l = omega (arith, mul-le-mul-left row (c .some))
 

@@ -1,5 +1,4 @@
 -- A search of a table's rows is the same search of the rows of the slice that is lent as that table.
--- Assumes nothing.
 use Prim.Native.Nat.{ℕ}
 use mathlib.Core.Path.{_≡_, sym, ap}
 use mathlib.Core.Bool.{Bool}
@@ -11,11 +10,11 @@ use Rattle.theory.proofs.Search.{search-says}
 use Rattle.cells.specs.Cell.{rowsIn}
 
 module _ (p : ℕ → Bool) (width : ℕ) {t lent : List ℤ} where
-  -- whether some row passes
+  -- whether some row of the table passes is whether some row of the slice does
   pub any-rows : t ≡ lent → any p (rowsIn width t) ≡ any p (rowsIn width lent)
   any-rows e = ap (λ (l : List ℤ). any p (rowsIn width l)) e
 
-  -- the lowest that does
+  -- the lowest row of the table that passes is the lowest of the slice
   pub first-rows : t ≡ lent → first p (rowsIn width t) ≡ first p (rowsIn width lent)
   first-rows e = ap (λ (l : List ℤ). first p (rowsIn width l)) e
 

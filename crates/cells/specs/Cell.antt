@@ -1,5 +1,4 @@
 -- The numbers of a table: a lent slice of signed numbers, row after row; and the words of E code.
--- Assumes nothing.
 use Prim.Native.Nat.{ℕ, _+_, _*_, _/_, _≤_, _<_}
 use mathlib.Core.Bool.{Bool, false, cond}
 use mathlib.Core.List.{List}
@@ -7,20 +6,20 @@ use lib.Dec.{eqb, ltb}
 use lib.IntN.{ℤ, pos, negsuc}
 use lib.ListN.{getD, length}
 
--- what stands at a place, and 0 past the end
+-- the signed number at a place of a slice, and 0 past its end
 abbrev pub cellAt : List ℤ → ℕ → ℤ
 cellAt t i = getD t i (pos 0)
 
--- no range of document 01 reaches so far
+-- a number that is out of range wherever document 01 has a range
 abbrev pub outOfRange : ℕ
 outOfRange = 2147483648
 
--- a number that counts or names; a negative one is out of every range
+-- a signed number as one that counts or names; a negative one is out of every range
 abbrev pub indexOf : ℤ → ℕ
 indexOf (pos n) = n
 indexOf (negsuc n) = outOfRange
 
--- names nothing
+-- the number that names nothing, of each kind
 abbrev pub unnamed : ℕ
 unnamed = 255
 
@@ -28,9 +27,11 @@ unnamed = 255
 unfoldable pub nameOf : ℕ → ℕ
 nameOf n = cond (ltb n unnamed) n unnamed
 
+-- the number at a place of a slice, as one that counts or names
 unfoldable pub numAt : List ℤ → ℕ → ℕ
 numAt t i = indexOf (cellAt t i)
 
+-- the number of a kind at a place of a slice
 unfoldable pub nameAt : List ℤ → ℕ → ℕ
 nameAt t i = nameOf (numAt t i)
 
@@ -38,7 +39,7 @@ nameAt t i = nameOf (numAt t i)
 abbrev pub rowsIn : ℕ → List ℤ → ℕ
 rowsIn width t = length t / width
 
--- no table of document 01 has more columns
+-- the most columns that a table of document 01 has
 abbrev pub widest : ℕ
 widest = 5
 
@@ -58,15 +59,15 @@ namedAt width column t row = nameAt t (row * width + column)
 abbrev pub valueAt : ℕ → ℕ → List ℤ → ℕ → ℤ
 valueAt width column t row = cellAt t (row * width + column)
 
--- a word of E code, and 0 past the end
+-- the word at a place of E code, and 0 past its end
 unfoldable pub wordAt : List ℕ → ℕ → ℕ
 wordAt code i = getD code i 0
 
--- no word is greater
+-- the greatest word
 abbrev pub greatestWord : ℕ
 greatestWord = 4294967295
 
--- two signed numbers are equal
+-- the test that two signed numbers are equal
 abbrev pub eqZ : ℤ → ℤ → Bool
 eqZ (pos a) (pos b) = eqb a b
 eqZ (pos a) (negsuc b) = false

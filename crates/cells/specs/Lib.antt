@@ -1,6 +1,5 @@
--- Numbers of tables, readings, limits, refusal numbers.
+-- Numbers of tables, columns, limits, refusal numbers.
 pub mod Cell
 pub mod Columns
-pub mod Reading
 pub mod Limits
 pub mod Refusals

@@ -1,12 +1,11 @@
 -- The limits of document 01, one name for each meaning. They are the constants of `Program` in the code.
--- Assumes nothing.
 use Prim.Native.Nat.{ℕ}
 
--- so many tables a program has
+-- the number of tables that a program has
 abbrev pub tableCount : ℕ
 tableCount = 10
 
--- most rows of each
+-- the most rows that each table may have
 abbrev pub maxPorts : ℕ
 maxPorts = 64
 
@@ -40,18 +39,18 @@ maxSwitches = 64
 abbrev pub maxWindows : ℕ
 maxWindows = 256
 
--- schedule rows of one supplier, and in all
+-- the most schedule rows of one supplier, and of all together
 abbrev pub maxPart : ℕ
 maxPart = 256
 
 abbrev pub maxSchedule : ℕ
 maxSchedule = 2048
 
--- suppliers are 0..7
+-- the number of suppliers: they are 0..7
 abbrev pub suppliers : ℕ
 suppliers = 8
 
--- the most of a field
+-- the greatest number that a field may have
 abbrev pub maxWorst : ℕ
 maxWorst = 4096
 
@@ -64,7 +63,7 @@ maxFrequency = 64
 abbrev pub maxUnits : ℕ
 maxUnits = 64
 
--- E code: instructions, words of one, delay of a `future`
+-- the most instructions of E code, the words of one, the longest delay of a `future`
 abbrev pub maxCode : ℕ
 maxCode = 4096
 
@@ -74,7 +73,7 @@ wordsEach = 3
 abbrev pub maxDelay : ℕ
 maxDelay = 4096
 
--- the state: elapsed and remaining ticks of a unit, remaining time of a task
+-- the most that a state may hold: elapsed and remaining ticks of a unit, remaining time of a task
 abbrev pub maxElapsed : ℕ
 maxElapsed = 4096
 
@@ -84,7 +83,7 @@ maxRemaining = 4096
 abbrev pub maxLeft : ℕ
 maxLeft = 4096
 
--- call numbers: drivers from 0, output copies from 1000, sensor readings from 2000
+-- the first call number of an output copy, and of a sensor reading; those of drivers begin at 0
 abbrev pub firstOutputCall : ℕ
 firstOutputCall = 1000
 

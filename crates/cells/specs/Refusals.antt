@@ -1,5 +1,5 @@
 -- The refusal numbers of document 01 by name. They are the constants of `refusals` in the code; accepted is `acceptedNumber` in
--- theory/specs/Verdict. Assumes nothing.
+-- theory/specs/Verdict.
 use Prim.Native.Nat.{ℕ}
 
 abbrev pub shapeRefused : ℕ

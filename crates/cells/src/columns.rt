@@ -1,11 +1,12 @@
-// The columns of each table of document 01 by name, and how many a row has.
+// The columns of each table of document 01 by name, and how many a row has. Those of ports, tasks, drivers and modes are read in this
+// crate alone, by the kind.
 pub mod port {
     pub const WIDTH: usize = 2;
 
-    pub const KIND: usize = 0;
+    pub(crate) const KIND: usize = 0;
 
-    pub const FIRST: usize = 1;
-    // The values of KIND.
+    pub(crate) const FIRST: usize = 1;
+    // The values of KIND: the kinds of port.
     pub const SENSOR: usize = 0;
 
     pub const ACTUATOR: usize = 1;
@@ -18,9 +19,9 @@ pub mod port {
 pub mod task {
     pub const WIDTH: usize = 2;
 
-    pub const SUPPLIER: usize = 0;
+    pub(crate) const SUPPLIER: usize = 0;
 
-    pub const WORST: usize = 1;
+    pub(crate) const WORST: usize = 1;
 }
 
 pub mod task_port {
@@ -34,14 +35,14 @@ pub mod task_port {
 pub mod driver {
     pub const WIDTH: usize = 4;
 
-    pub const KIND: usize = 0;
+    pub(crate) const KIND: usize = 0;
 
-    pub const PORT: usize = 1;
+    pub(crate) const PORT: usize = 1;
 
-    pub const LOW: usize = 2;
+    pub(crate) const LOW: usize = 2;
 
-    pub const HIGH: usize = 3;
-    // The values of KIND.
+    pub(crate) const HIGH: usize = 3;
+    // The values of KIND: the kinds of guard.
     pub const ALWAYS: usize = 0;
 
     pub const INTERVAL: usize = 1;
@@ -60,7 +61,7 @@ pub mod copy {
 pub mod mode {
     pub const WIDTH: usize = 1;
 
-    pub const PERIOD: usize = 0;
+    pub(crate) const PERIOD: usize = 0;
 }
 
 pub mod mode_port {
@@ -71,7 +72,7 @@ pub mod mode_port {
     pub const PORT: usize = 1;
 }
 
-// Invocations, updates and switches begin alike.
+// Invocations, updates and switches begin alike: with a mode and a frequency.
 pub mod timed {
     pub const MODE: usize = 0;
 
@@ -136,7 +137,7 @@ pub mod schedule {
     pub const TASK: usize = 3;
 
     pub const TIMEOUT: usize = 4;
-    // The values of KIND.
+    // The values of KIND: the kinds of schedule row.
     pub const DISPATCH: usize = 0;
 
     pub const IDLE: usize = 1;

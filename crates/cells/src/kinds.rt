@@ -7,16 +7,16 @@ ghost use Rattle.cells.specs.Cell.{nameOf};
 // A number that names nothing: every table has fewer rows.
 pub const UNNAMED: usize = 255;
 
-pub struct Port(pub u8);
+pub struct Port(u8);
 
-pub struct Task(pub u8);
+pub struct Task(u8);
 
-pub struct Driver(pub u8);
+pub struct Driver(u8);
 
-pub struct Mode(pub u8);
+pub struct Mode(u8);
 
 // A number as one byte; a larger one names nothing.
-pub fn name(n: usize) -> u8
+fn name(n: usize) -> u8
     ensures { λ r. ⌜ r ≡ nameOf n ⌝ }
 {
     if n < UNNAMED {
@@ -33,7 +33,7 @@ impl Port {
         Port(name(n))
     }
 
-    pub fn index(self) -> usize
+    pub(crate) fn index(self) -> usize
         ensures { λ r. ⌜ r ≡ self .0 ⌝ }
     {
         self.0 as usize
@@ -69,7 +69,7 @@ impl Task {
         Task(name(n))
     }
 
-    pub fn index(self) -> usize
+    pub(crate) fn index(self) -> usize
         ensures { λ r. ⌜ r ≡ self .0 ⌝ }
     {
         self.0 as usize
@@ -105,7 +105,7 @@ impl Driver {
         Driver(name(n))
     }
 
-    pub fn index(self) -> usize
+    pub(crate) fn index(self) -> usize
         ensures { λ r. ⌜ r ≡ self .0 ⌝ }
     {
         self.0 as usize
@@ -134,7 +134,7 @@ impl Mode {
         Mode(name(n))
     }
 
-    pub fn index(self) -> usize
+    pub(crate) fn index(self) -> usize
         ensures { λ r. ⌜ r ≡ self .0 ⌝ }
     {
         self.0 as usize

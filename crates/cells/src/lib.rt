@@ -1,4 +1,4 @@
-// The leaf: numbers of lent tables by row and named column, parts of a slice, the four kinds, readings, limits, refusal numbers.
+// The leaf: numbers of lent tables by row and named column, parts of a slice, the four kinds and their rows, limits, refusal numbers.
 // Every access is total.
 pub mod columns;
 pub mod drivers;
@@ -7,7 +7,6 @@ pub mod limits;
 pub mod modes;
 pub mod parts;
 pub mod ports;
-pub mod reading;
 pub mod refusals;
 pub mod table;
 pub mod tables;

@@ -6,9 +6,9 @@ pub struct Program {
 }
 
 impl Program {
-    // So many tables, lent as one value; `tables` says which stands where.
+    // The number of tables that are lent as one value; `tables` says which stands where.
     pub const TABLES: usize = 10;
-    // Most rows of each.
+    // The most rows that each table may have.
     pub const PORTS: usize = 64;
 
     pub const TASKS: usize = 32;
@@ -30,13 +30,13 @@ impl Program {
     pub const SWITCHES: usize = 64;
 
     pub const WINDOWS: usize = 256;
-    // Schedule rows of one supplier, and in all.
+    // The most schedule rows of one supplier, and of all together.
     pub const PART: usize = 256;
 
     pub const SCHEDULE: usize = 2048;
 
     pub const SUPPLIERS: usize = 8;
-    // The most of a field.
+    // The greatest number that a field may have.
     pub const WORST: usize = 4096;
 
     pub const PERIOD: usize = 4096;
@@ -44,19 +44,19 @@ impl Program {
     pub const FREQUENCY: usize = 64;
 
     pub const UNITS: usize = 64;
-    // E code: instructions, words of one, delay of a `future`.
+    // The most instructions of E code, the words of one, the longest delay of a `future`.
     pub const CODE: usize = 4096;
 
     pub const WORDS: usize = 3;
 
     pub const DELAY: usize = 4096;
-    // The state: elapsed and remaining ticks of a unit, remaining time of a task.
+    // The most that a state may hold: elapsed and remaining ticks of a unit, remaining time of a task.
     pub const ELAPSED: usize = 4096;
 
     pub const REMAINING: usize = 4096;
 
     pub const LEFT: usize = 4096;
-    // Call numbers: drivers from 0, output copies and sensor readings from these.
+    // The first call number of an output copy, and of a sensor reading; those of drivers begin at 0.
     pub const OUTPUT_CALL: usize = 1000;
 
     pub const SENSOR_CALL: usize = 2000;

@@ -5,7 +5,7 @@ ghost use lib.ListN.{take, drop};
 ghost use Rattle.cells.specs.Limits.{wordsEach};
 use crate::limits::Program;
 
-// The smaller of two.
+// The smaller of two numbers.
 pub fn least(a: usize, b: usize) -> usize
     ensures { λ r. ⌜ r ≡ min a b ⌝ }
 {
@@ -15,7 +15,7 @@ pub fn least(a: usize, b: usize) -> usize
     b
 }
 
-// The n numbers from a place on, as many as there are.
+// The n numbers of a room from a place on, or as many as there are.
 pub fn part(room: &[i32], at: usize, n: usize) -> &[i32]
     ensures { λ r. ⌜ now r ≡ take n (drop at (now (room .entry))) ⌝ }
 {
@@ -24,7 +24,7 @@ pub fn part(room: &[i32], at: usize, n: usize) -> &[i32]
     &room[from..end]
 }
 
-// The words of the first n instructions, as many as there are.
+// The words of the first n instructions of E code, or as many as there are.
 pub fn words(code: &[u32], n: usize) -> &[u32]
     ensures { λ r. ⌜ now r ≡ take (wordsEach * n) (now (code .entry)) ⌝ }
 {

@@ -1,20 +1,28 @@
 // The refusal numbers of document 01 by name; docs/NUMBERS.md says of each what it means.
 pub const ACCEPTED: usize = 0;
 
+// A lent slice is not whole rows, exceeds its limit, or there is no mode.
 pub const SHAPE: usize = 1;
 
+// A field of the tables, or the start mode, is out of range or names nothing.
 pub const FIELDS: usize = 2;
 
+// A task port row repeats, names a sensor or actuator, or one input port serves two tasks.
 pub const TASK_PORTS: usize = 3;
 
+// One driver has two copies to one destination.
 pub const COPIES: usize = 4;
 
+// A mode port row repeats or names no output port.
 pub const MODE_PORTS: usize = 5;
 
+// An invocation breaks a rule.
 pub const INVOCATIONS: usize = 6;
 
+// An update breaks a rule.
 pub const UPDATES: usize = 7;
 
+// A switch breaks a rule.
 pub const SWITCHES: usize = 8;
 
 // A mode's units are too many, or do not divide its period.
@@ -26,8 +34,10 @@ pub const WHOLE: usize = 10;
 // The E code exceeds its limit or the lent slice.
 pub const CODE: usize = 11;
 
+// A window is out of range, or two share a tick.
 pub const WINDOWS: usize = 12;
 
+// A schedule row is out of range, out of order or not the supplier's own.
 pub const SCHEDULE: usize = 13;
 
 // A supplier runs outside its windows.

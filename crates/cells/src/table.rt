@@ -8,8 +8,8 @@ use crate::kinds::Mode;
 use crate::kinds::Port;
 use crate::kinds::Task;
 
-// What stands at a place.
-pub fn value(t: &[i32], at: usize) -> i32
+// The signed number at a place of a slice; past the end stands 0.
+pub(crate) fn value(t: &[i32], at: usize) -> i32
     ensures { λ r. ⌜ r ≡ cellAt (now (t .entry)) at ⌝ }
 {
     if at < t.len() {
@@ -18,10 +18,10 @@ pub fn value(t: &[i32], at: usize) -> i32
     0
 }
 
-// No range of document 01 reaches so far.
+// A number that is out of range wherever document 01 has a range.
 pub const OUT_OF_RANGE: usize = 2147483648;
 
-// A number that counts or names; a negative one is out of every range.
+// A signed number as one that counts or names; a negative one is out of every range.
 pub fn index(x: i32) -> usize
     ensures { λ r. ⌜ r ≡ indexOf x ⌝ }
 {
@@ -31,8 +31,8 @@ pub fn index(x: i32) -> usize
     x as usize
 }
 
-// The number at a place.
-pub fn num(t: &[i32], at: usize) -> usize
+// The number at a place of a slice, as one that counts or names; past the end stands 0.
+pub(crate) fn num(t: &[i32], at: usize) -> usize
     ensures { λ r. ⌜ r ≡ numAt (now (t .entry)) at ⌝ }
 {
     if at < t.len() {
@@ -41,7 +41,7 @@ pub fn num(t: &[i32], at: usize) -> usize
     0
 }
 
-// A word of E code.
+// The word at a place of E code; past the end stands 0.
 pub fn word(code: &[u32], at: usize) -> usize
     ensures { λ r. ⌜ r ≡ wordAt (now (code .entry)) at ⌝ }
 {
@@ -51,7 +51,7 @@ pub fn word(code: &[u32], at: usize) -> usize
     0
 }
 
-// A word put at a place; past the end nothing is.
+// A word is put at a place of E code; past the end nothing is put.
 pub fn put(code: &mut [u32], at: usize, n: usize)
     requires { ⌜ n ≤ greatestWord ⌝ }
     ensures { λ _. ⌜ now (code .exit) ≡ set (now (code .entry)) at n ⌝ }
@@ -61,7 +61,7 @@ pub fn put(code: &mut [u32], at: usize, n: usize)
     }
 }
 
-// A value put at a place; past the end nothing is.
+// A value is put at a place of a slice; past the end nothing is put.
 pub fn put_value(t: &mut [i32], at: usize, v: i32)
     ensures { λ _. ⌜ now (t .exit) ≡ set (now (t .entry)) at v ⌝ }
 {
@@ -70,7 +70,7 @@ pub fn put_value(t: &mut [i32], at: usize, v: i32)
     }
 }
 
-// A count at a place; past the end stands 0.
+// The count at a place of a list of counts; past the end stands 0.
 pub(crate) fn count(list: &[usize], at: usize) -> usize
     ensures { λ r. ⌜ r ≡ getD (now (list .entry)) at 0 ⌝ }
 {
@@ -80,7 +80,7 @@ pub(crate) fn count(list: &[usize], at: usize) -> usize
     0
 }
 
-// A count put at a place; past the end nothing is.
+// A count is put at a place of a list of counts; past the end nothing is put.
 pub(crate) fn put_count(list: &mut [usize], at: usize, n: usize)
     ensures { λ _. ⌜ now (list .exit) ≡ set (now (list .entry)) at n ⌝ }
 {
@@ -89,7 +89,7 @@ pub(crate) fn put_count(list: &mut [usize], at: usize, n: usize)
     }
 }
 
-// A column of a row, as a number.
+// A column of a row of a table, as a number that counts.
 pub fn field(t: &[i32], width: usize, row: usize, column: usize) -> usize
     requires { ⌜ Column width column ⌝ }
     ensures { λ r. ⌜ r ≡ fieldAt width column (now (t .entry)) row ⌝ }
@@ -100,8 +100,8 @@ pub fn field(t: &[i32], width: usize, row: usize, column: usize) -> usize
     0
 }
 
-// A column of a row, as a signed value.
-pub fn signed(t: &[i32], width: usize, row: usize, column: usize) -> i32
+// A column of a row of a table, as a signed value.
+pub(crate) fn signed(t: &[i32], width: usize, row: usize, column: usize) -> i32
     requires { ⌜ Column width column ⌝ }
     ensures { λ r. ⌜ r ≡ valueAt width column (now (t .entry)) row ⌝ }
 {
@@ -111,7 +111,7 @@ pub fn signed(t: &[i32], width: usize, row: usize, column: usize) -> i32
     0
 }
 
-// A column of a row that names a port, a task, a driver, a mode.
+// The port that a row of a table names in a column.
 pub fn port(t: &[i32], width: usize, row: usize, column: usize) -> Port
     requires { ⌜ Column width column ⌝ }
     ensures { λ r. ⌜ r .0 ≡ namedAt width column (now (t .entry)) row ⌝ }
@@ -119,6 +119,7 @@ pub fn port(t: &[i32], width: usize, row: usize, column: usize) -> Port
     Port::of(field(t, width, row, column))
 }
 
+// The task that a row of a table names in a column.
 pub fn task(t: &[i32], width: usize, row: usize, column: usize) -> Task
     requires { ⌜ Column width column ⌝ }
     ensures { λ r. ⌜ r .0 ≡ namedAt width column (now (t .entry)) row ⌝ }
@@ -126,6 +127,7 @@ pub fn task(t: &[i32], width: usize, row: usize, column: usize) -> Task
     Task::of(field(t, width, row, column))
 }
 
+// The driver that a row of a table names in a column.
 pub fn driver(t: &[i32], width: usize, row: usize, column: usize) -> Driver
     requires { ⌜ Column width column ⌝ }
     ensures { λ r. ⌜ r .0 ≡ namedAt width column (now (t .entry)) row ⌝ }
@@ -133,6 +135,7 @@ pub fn driver(t: &[i32], width: usize, row: usize, column: usize) -> Driver
     Driver::of(field(t, width, row, column))
 }
 
+// The mode that a row of a table names in a column.
 pub fn mode(t: &[i32], width: usize, row: usize, column: usize) -> Mode
     requires { ⌜ Column width column ⌝ }
     ensures { λ r. ⌜ r .0 ≡ namedAt width column (now (t .entry)) row ⌝ }

@@ -31,7 +31,7 @@ pub const UPDATES: usize = 8;
 
 pub const SWITCHES: usize = 9;
 
-// How many numbers a row of each has.
+// How many numbers a row of each table has, by the place of the table.
 pub const WIDTHS: [usize; Program::TABLES] = [
     port::WIDTH,
     task::WIDTH,
@@ -45,7 +45,7 @@ pub const WIDTHS: [usize; Program::TABLES] = [
     switch::WIDTH,
 ];
 
-// Most rows of each.
+// The most rows that each table may have, by the place of the table.
 pub const LIMITS: [usize; Program::TABLES] = [
     Program::PORTS,
     Program::TASKS,

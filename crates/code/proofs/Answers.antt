@@ -1,5 +1,5 @@
 -- What compiling answers: the number of its verdict; refused, nothing is written and the length is 0.
--- Assumes nothing; of what a refusal leaves, that the number is not 0.
+-- Assumes of what a refusal leaves that the number is not 0.
 use Prim.Native.Nat.{ℕ, zero, suc}
 use mathlib.Core.Path.{_≡_, refl, sym, _∙_}
 use Rattle.theory.specs.Verdict.{acceptedNumber}
@@ -14,11 +14,11 @@ module _ (L : Compiling) where
       go zero e = rw (e, compileAnswer)
       go (suc n) e = rw (e, compileAnswer)
 
-  -- so none is answered only where none is
+  -- accepted is answered only where no rule is broken
   pub compile-passes : compileAnswer L .number ≡ acceptedNumber → compileVerdict L ≡ acceptedNumber
   compile-passes e = sym compile-number ∙ e
 
-  -- refused: nothing is written, and the length is 0
+  -- where compiling refuses, nothing is written, and the length is 0
   pub compile-refused : (compileAnswer L .number ≡ acceptedNumber → ⊥) → (compileSlice L ≡ L .slice) × (compileAnswer L .length ≡ 0)
   compile-refused h = go (compileVerdict L) refl
     where

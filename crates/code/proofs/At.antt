@@ -1,5 +1,4 @@
 -- Instructions that stand in a code at an address, and what is fetched there.
--- Assumes nothing.
 use Prim.Native.Nat.{ℕ, zero, suc, _+_, _≤_, _<_}
 use mathlib.Core.Path.{_≡_, ap, _∙_}
 use mathlib.Core.List.{List, [], _∷_, _++_, append-assoc}
@@ -17,16 +16,16 @@ pub record At (code : List Op) (pc : ℕ) (os : List Op) : Type 0 where
   pub cut : code ≡ pre ++ (os ++ post)
   pub from : length pre ≡ pc
 
--- the first part stands there
+-- of two pieces that stand at an address the first stands there
 pub at-left : {code : List Op} {pc : ℕ} (a b : List Op) → At code pc (a ++ b) → At code pc a
 at-left a b h = record { pre = h .pre; post = b ++ h .post; cut = h .cut ∙ simp append-assoc; from = h .from }
 
--- the second part stands behind the first
+-- of two pieces that stand at an address the second stands behind the first
 pub at-right : {code : List Op} {pc : ℕ} (a b : List Op) → At code pc (a ++ b) → At code (pc + length a) b
 at-right a b h =
     record { pre = h .pre ++ a; post = h .post; cut = h .cut ∙ simp append-assoc; from = omega (arith, length-append (h .pre) a) }
 
--- the others stand one further
+-- of instructions that stand at an address those behind the first stand one further
 pub at-tail : {code : List Op} {pc : ℕ} {o : Op} {os : List Op} → At code pc (o ∷ os) → At code (suc pc) os
 at-tail {o = o} h =
     record {
@@ -36,11 +35,11 @@ at-tail {o = o} h =
       from = omega (arith, length-append (h .pre) (o ∷ []));
     }
 
--- another way to write the address
+-- what stands at an address stands at every number that equals it
 pub at-move : {code : List Op} {pc : ℕ} {os : List Op} (to : ℕ) → pc ≡ to → At code pc os → At code to os
 at-move to e h = record { pre = h .pre; post = h .post; cut = h .cut; from = h .from ∙ e }
 
--- all that stands there stands within the code
+-- what stands at an address of a code ends within the code
 pub at-within : {code : List Op} {pc : ℕ} {os : List Op} → At code pc os → pc + length os ≤ length code
 at-within {code} {pc} {os} h = omega (arith, simp length-append at (ap length (h .cut)), h .from)
 
@@ -53,6 +52,6 @@ at-cat {code} {pc} f (suc n) k l h = go (decLt k n) (λ m. at-cat f n k m (at-le
     go (yes m) ih = ih m
     go (no m) ih = let e : k ≡ n = omega arith in rw e (at-right (cat f n) (f n) h)
 
--- what is fetched is what stands there
+-- what is fetched at an address is the instruction that stands there
 pub fetch-at : {code : List Op} {pc : ℕ} {o : Op} {os : List Op} → At code pc (o ∷ os) → getD code pc faulty ≡ o
 fetch-at {code} {pc} {o} {os} h = rw (h .cut) (getD-at (h .pre) o (os ++ h .post) faulty pc (h .from))

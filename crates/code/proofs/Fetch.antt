@@ -1,5 +1,4 @@
 -- The instructions of a code by number: how many there are, which three words say each, and which words say none.
--- Assumes nothing.
 use Prim.Native.Nat.{ℕ, zero, suc, _+_, _*_, _/_, _<_}
 use mathlib.Core.Path.{_≡_, refl, sym, _∙_}
 use mathlib.Core.List.{List, [], _∷_}
@@ -8,16 +7,17 @@ use lib.ListN.{length, getD}
 use borrow.Author.Tests.{ne-eqb}
 use Rattle.cells.specs.Cell.{wordAt}
 use Rattle.cells.specs.Limits.{wordsEach}
-use Rattle.code.specs.Op.{Op, faulty, callNumber, scheduleNumber, ifNumber, jumpNumber, futureNumber, returnNumber, decode, instructions}
+use Rattle.code.specs.Op.{Op, faulty, callNumber, scheduleNumber, ifNumber, jumpNumber, futureNumber, returnNumber, decode}
+use Rattle.code.specs.Op.{instructions}
 
--- as many as there are whole threes of words
+-- a code has as many instructions as whole threes of words
 pub instructions-length : (code : List ℕ) → length (instructions code) ≡ length code / wordsEach
 instructions-length [] = refl
 instructions-length (n ∷ []) = refl
 instructions-length (n ∷ a ∷ []) = refl
 instructions-length (n ∷ a ∷ b ∷ more) = omega (arith, instructions-length more)
 
--- the instruction that the three words from here on say
+-- the instruction that the three words from a place on say
 abbrev pub decodedAt : List ℕ → ℕ → Op
 decodedAt code at = decode (wordAt code at) (wordAt code (at + 1)) (wordAt code (at + 2))
 
@@ -35,13 +35,13 @@ instruction-at (n ∷ a ∷ b ∷ more) (suc i) h =
     let code = n ∷ a ∷ b ∷ more in
     instruction-at more i (omega arith) ∙ (λ j. decode (wordAt code (here j)) (wordAt code (first j)) (wordAt code (second j)))
 
--- so three words that were read there say it
+-- three words that were read at three times i and behind it say instruction i
 pub instruction-read : (code : List ℕ) (i n a b : ℕ) → i < length code / wordsEach
     → n ≡ wordAt code (i * wordsEach) → a ≡ wordAt code (i * wordsEach + 1) → b ≡ wordAt code (i * wordsEach + 2)
     → decode n a b ≡ getD (instructions code) i faulty
 instruction-read code i n a b h e f g = (λ j. decode (e j) (f j) (g j)) ∙ sym (instruction-at code i h)
 
--- what none of the six numbers begins says no instruction
+-- three words whose first is none of the six numbers say no instruction
 pub decode-unknown : (n a b : ℕ) → (n ≡ callNumber → ⊥) → (n ≡ scheduleNumber → ⊥) → (n ≡ ifNumber → ⊥) → (n ≡ jumpNumber → ⊥)
     → (n ≡ futureNumber → ⊥) → (n ≡ returnNumber → ⊥) → decode n a b ≡ faulty
 decode-unknown n a b c s i j f r =

@@ -1,5 +1,5 @@
 -- The `future`s of the listing: each is that of a unit of a declared mode, stands at that unit's address and waits its ticks.
--- That it is that of no other unit is `future-once`. Assumes nothing.
+-- That it is that of no other unit is `future-once`.
 use Prim.Native.Nat.{ℕ, zero, suc, _+_, _<_}
 use mathlib.Core.Path.{_≡_, refl, sym, subst, _∙_}
 use mathlib.Core.List.{List, [], _∷_, _++_, map}
@@ -11,7 +11,8 @@ use Rattle.theory.specs.Lists.{Every, cat}
 use Rattle.theory.proofs.Lists.{every-all, every-image, every-append, cat-length}
 use Rattle.program.specs.Program.{Program, Mode, Switch, mode, ticksOf, dueInvocations, dueUpdates, dueSwitches, dueTasks}
 use Rattle.code.specs.Op.{Op, schedule}
-use Rattle.code.specs.Listing.{blockSize, modeSize, modeAddress, blockAddress, futureAddress, callDriver, callOutput, callSensor, headOf, testsOf, bodyOf, endOf, stubsOf, blockCode, modeCode, listing}
+use Rattle.code.specs.Listing.{blockSize, modeSize, modeAddress, blockAddress, futureAddress, callDriver, callOutput, callSensor}
+use Rattle.code.specs.Listing.{headOf, testsOf, bodyOf, endOf, stubsOf, blockCode, modeCode, listing}
 use Rattle.code.specs.Compile.{futureDelay, delayAt}
 use Rattle.code.proofs.Length.{tests-length, head-length, body-length, block-length, mode-length}
 
@@ -19,33 +20,33 @@ use Rattle.code.proofs.Length.{tests-length, head-length, body-length, 
 abbrev pub Plain : Op → Type 0
 Plain o = futureDelay o ≡ none
 
--- no delay is none
+-- none is no delay
 no-delay : {R : Type 0} (d : ℕ) → _≡_ {A = Option ℕ} none (some d) → R
 no-delay d e = let z : _≡_ {A = ℕ} 0 1 = cc in absurd (omega arith)
 
--- calls and schedules are none
+-- instructions that are made by a function that makes no `future` are no `future`s
 plain : {A : Type 0} (f : A → Op) (xs : List A) → ((x : A) → Plain (f x)) → Every Plain (map f xs)
 plain f xs h = every-image Plain f xs (every-all (λ x. Plain (f x)) xs h)
 
--- none stands before the switch tests of a block
+-- no `future` stands before the switch tests of a block
 pub head-plain : (P : Program) (M : Mode) (k : ℕ) → Every Plain (headOf P M k)
 head-plain P M k =
     every-append Plain (map callOutput (dueTasks M k)) _ (plain callOutput (dueTasks M k) (λ t. refl))
     (every-append Plain (map (λ r. callDriver (r .driver)) (dueUpdates M k)) _ (plain _ (dueUpdates M k) (λ r. refl))
     (plain callSensor (P .sensors) (λ p. refl)))
 
--- none among them
+-- no `future` stands among the switch tests
 pub tests-plain : (ws : List Switch) (a : ℕ) → Every Plain (testsOf ws a)
 tests-plain [] a = tt
 tests-plain (w ∷ ws) a = (refl, tests-plain ws (2 + a))
 
--- none between the entry and the `future`
+-- no `future` stands between the entry of a block and its `future`
 pub body-plain : (M : Mode) (k : ℕ) → Every Plain (bodyOf M k)
 body-plain M k =
     every-append Plain (map (λ r. callDriver (r .driver)) (dueInvocations M k)) _ (plain _ (dueInvocations M k) (λ r. refl))
     (plain schedule (dueTasks M k) (λ t. refl))
 
--- none among the stubs
+-- no `future` stands among the stubs
 pub stubs-plain : (P : Program) (k : ℕ) (ws : List Switch) → Every Plain (stubsOf P k ws)
 stubs-plain P k [] = tt
 stubs-plain P k (w ∷ ws) = (refl, (refl, stubs-plain P k ws))
@@ -56,19 +57,19 @@ module _ (Q : ℕ → ℕ → Type 0) where
   Futures a [] = Unit {0}
   Futures a (o ∷ os) = ((d : ℕ) → futureDelay o ≡ some d → Q a d) × Futures (suc a) os
 
-  -- where there is none
+  -- where there is no `future`, each has Q
   futures-none : (os : List Op) (a : ℕ) → Every Plain os → Futures a os
   futures-none [] a h = tt
   futures-none (o ∷ os) a h = (λ d e. no-delay d (sym (h .0) ∙ e), futures-none os (suc a) (h .1))
 
-  -- of one piece and of the next
+  -- where each `future` of two pieces has Q, each of the two together has it
   futures-append : (xs ys : List Op) (a : ℕ) → Futures a xs → Futures (a + length xs) ys → Futures a (xs ++ ys)
   futures-append [] ys a h g = subst (λ (n : ℕ). Futures n ys) (add-zero a) g
   futures-append (x ∷ xs) ys a h g =
       let e : a + suc (length xs) ≡ suc a + length xs = omega arith in
       (h .0, futures-append xs ys (suc a) (h .1) (subst (λ (n : ℕ). Futures n ys) e g))
 
-  -- of every piece; piece k stands at address at k
+  -- where each `future` of every piece has Q, each of all together has it; piece k stands at address at k
   futures-cat : (f : ℕ → List Op) (at : ℕ → ℕ) (n a : ℕ) → ((k : ℕ) → k < n → at k ≡ a + length (cat f k))
       → ((k : ℕ) → k < n → Futures (at k) (f k)) → Futures a (cat f n)
   futures-cat f at zero a e h = tt
@@ -76,7 +77,7 @@ module _ (Q : ℕ → ℕ → Type 0) where
       futures-append (cat f n) (f n) a (futures-cat f at n a (λ k l. e k (omega arith)) (λ k l. h k (omega arith)))
       (subst (λ (m : ℕ). Futures m (f n)) (e n (omega arith)) (h n (omega arith)))
 
-  -- so the one at an address has it
+  -- where each `future` has Q, the one at an address has it
   futures-at : (os : List Op) (a i d : ℕ) → Futures a os → delayAt os i ≡ some d → Q (a + i) d
   futures-at [] a i d h e = no-delay d e
   futures-at (o ∷ os) a zero d h e = subst (λ (n : ℕ). Q n d) (sym (add-zero a)) (h .0 d e)
@@ -92,7 +93,7 @@ pub record FutureOf (P : Program) (a d : ℕ) : Type 0 where
   pub address : a ≡ futureAddress P own unit
   pub delay : d ≡ ticksOf (mode P own)
 
--- the only one of a block is that of its unit
+-- the only `future` of a block is that of its unit
 block-futures : (P : Program) (m k : ℕ) → m < length (P .modes) → k < mode P m .units → Futures (FutureOf P) (blockAddress P m k) (blockCode P m k)
 block-futures P m k h l =
     futures-append Q hd _ a (futures-none Q hd a (head-plain P (mode P m) k))

@@ -9,7 +9,8 @@ use Rattle.theory.proofs.Lists.{every-keep, every-all, every-image, every-appen
 use Rattle.program.specs.Program.{Program, Mode, Switch, mode, nextUnit, enteredUnit, dueInvocations, dueUpdates, dueSwitches, dueTasks}
 use Rattle.program.proofs.Decoded.{next-below}
 use Rattle.code.specs.Op.{Op, call, schedule, branch, jump, future, return, faulty}
-use Rattle.code.specs.Listing.{blockAddress, entryAddress, futureAddress, callDriver, callOutput, callSensor, headOf, testsOf, bodyOf, endOf, stubsOf, blockCode, modeCode, listing}
+use Rattle.code.specs.Listing.{blockAddress, entryAddress, futureAddress, callDriver, callOutput, callSensor, headOf, testsOf}
+use Rattle.code.specs.Listing.{bodyOf, endOf, stubsOf, blockCode, modeCode, listing}
 use Rattle.code.proofs.Place.{block-within}
 
 -- what a program's names aim at is there
@@ -37,13 +38,14 @@ tests-inside n (w ∷ ws) a h = (omega arith, tests-inside n ws (2 + a) (omega a
 mapped : {A : Type 0} (n : ℕ) (f : A → Op) (xs : List A) → ((x : A) → Below n (f x)) → Every (Below n) (map f xs)
 mapped n f xs h = every-image (Below n) f xs (every-all (λ x. Below n (f x)) xs h)
 
--- what stands before the switch tests, and what stands behind the entry
+-- what stands before the switch tests of a block names no address
 head-inside : (P : Program) (M : Mode) (k n : ℕ) → Every (Below n) (headOf P M k)
 head-inside P M k n =
     every-append (Below n) (map callOutput (dueTasks M k)) _ (mapped n callOutput (dueTasks M k) (λ t. tt))
     (every-append (Below n) (map (λ r. callDriver (r .driver)) (dueUpdates M k)) _ (mapped n _ (dueUpdates M k) (λ r. tt))
     (mapped n callSensor (P .sensors) (λ p. tt)))
 
+-- what stands between the entry of a block and its `future` names no address
 body-inside : (M : Mode) (k n : ℕ) → Every (Below n) (bodyOf M k)
 body-inside M k n =
     every-append (Below n) (map (λ r. callDriver (r .driver)) (dueInvocations M k)) _ (mapped n _ (dueInvocations M k) (λ r. tt))
@@ -53,7 +55,7 @@ body-inside M k n =
 pub block-inside : (P : Program) (m k : ℕ) → m < length (P .modes) → k < mode P m .units → blockAddress P m k < length (listing P)
 block-inside P m k h l = omega (arith, block-within P m k h l)
 
--- its entry stands inside
+-- the entry of a block of a declared mode stands inside
 pub entry-inside : (P : Program) (m k : ℕ) → m < length (P .modes) → k < mode P m .units → entryAddress P m k < length (listing P)
 entry-inside P m k h l = omega (arith, block-within P m k h l)
 
@@ -64,7 +66,7 @@ module _ (P : Program) (o : Aims P) where
   stubs-inside k (w ∷ ws) h =
       (tt, (entry-inside P (w .target) (enteredUnit k w) (h .0) (o .units (w .target) (h .0)), stubs-inside k ws (h .1)))
 
-  -- every address that a block names
+  -- every address that a block of a declared mode names lies inside the listing
   all-inside : (m k : ℕ) → m < length (P .modes) → k < mode P m .units → Every (Below (length (listing P))) (blockCode P m k)
   all-inside m k h l =
       every-append _ (headOf P M k) _ (head-inside P M k n)
@@ -91,6 +93,6 @@ module _ (P : Program) (o : Aims P) where
         (λ m h. every-cat (Below (length (listing P))) (blockCode P m) (mode P m .units) (λ k l. all-inside m k h l)),
   )
 
-  -- so does the one that the instruction at any place names
+  -- the address that the instruction at any place of the listing names lies inside it
   pub inside-at : (i : ℕ) → Below (length (listing P)) (getD (listing P) i faulty)
   inside-at i = every-at (Below (length (listing P))) (listing P) faulty tt listing-inside i

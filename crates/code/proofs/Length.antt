@@ -1,5 +1,5 @@
 -- How long the pieces of the listing are, and the length rule of document 01.
--- Assumes nothing of the lengths; of the rule, that the units of each mode are a multiple of each of its frequencies (`Whole`).
+-- Assumes of the rule that the units of each mode are a multiple of each of its frequencies (`Whole`).
 use Prim.Native.Nat.{ℕ, suc, _+_, _*_, _/_, _≤_, _<_}
 use mathlib.Core.Path.{_≡_, refl, ap, _∙_}
 use mathlib.Core.List.{List, [], _∷_}
@@ -10,7 +10,8 @@ use Rattle.theory.proofs.Lists.{bit, sum-same, sum-add, sum-const, sum-zero, ca
 use Rattle.theory.proofs.Due.{due-times}
 use Rattle.program.specs.Units.{due}
 use Rattle.program.specs.Program.{Program, Mode, Invocation, Update, Switch, mode, dueInvocations, dueUpdates, dueSwitches}
-use Rattle.code.specs.Listing.{headSize, blockSize, modeSize, modeAddress, headOf, testsOf, bodyOf, stubsOf, blockCode, modeCode, listing, frequencies, modeLength, lengthRule}
+use Rattle.code.specs.Listing.{headSize, blockSize, modeSize, modeAddress, headOf, testsOf, bodyOf, stubsOf, blockCode, modeCode}
+use Rattle.code.specs.Listing.{listing, frequencies, modeLength, lengthRule}
 
 -- u units are a multiple of the frequency f
 abbrev pub Fits : ℕ → ℕ → Type 0
@@ -23,16 +24,16 @@ pub record WholeMode (M : Mode) : Type 0 where
   pub updates : Every (λ r. Fits (M .units) (r .frequency)) (M .updates)
   pub switches : Every (λ r. Fits (M .units) (r .frequency)) (M .switches)
 
--- every declared mode is so
+-- every declared mode has a unit, and its units are a multiple of each of its frequencies
 abbrev pub WholeUnits : Program → Type 0
 WholeUnits P = (m : ℕ) → m < length (P .modes) → WholeMode (mode P m)
 
--- a test for each switch
+-- there is a test for each switch
 pub tests-length : (ws : List Switch) (a : ℕ) → length (testsOf ws a) ≡ length ws
 tests-length [] a = refl
 tests-length (w ∷ ws) a = ap suc (tests-length ws (2 + a))
 
--- two instructions for each switch
+-- the stubs are two instructions for each switch
 pub stubs-length : (P : Program) (k : ℕ) (ws : List Switch) → length (stubsOf P k ws) ≡ 2 * length ws
 stubs-length P k [] = refl
 stubs-length P k (w ∷ ws) = omega (arith, stubs-length P k ws)
@@ -41,7 +42,7 @@ stubs-length P k (w ∷ ws) = omega (arith, stubs-length P k ws)
 pub head-length : (P : Program) (M : Mode) (k : ℕ) → length (headOf P M k) ≡ headSize P M k
 head-length P M k = simp (length-append, length-map)
 
--- two instructions for each due task
+-- between the entry and the `future` stand two instructions for each due task
 pub body-length : (M : Mode) (k : ℕ) → length (bodyOf M k) ≡ 2 * length (dueInvocations M k)
 body-length M k = simp (length-append, length-map) (omega arith)
 
@@ -49,7 +50,7 @@ body-length M k = simp (length-append, length-map) (omega arith)
 pub block-length : (P : Program) (m k : ℕ) → length (blockCode P m k) ≡ blockSize P (mode P m) k
 block-length P m k = simp (length-append, length-map, tests-length, stubs-length) (omega arith)
 
--- so is a mode
+-- a mode is as long as its size says
 pub mode-length : (P : Program) (m : ℕ) → length (modeCode P m) ≡ modeSize P (mode P m)
 mode-length P m = cat-length (blockCode P m) (blockSize P (mode P m)) (mode P m .units) (λ k l. block-length P m k)
 
@@ -73,7 +74,7 @@ due-counts frequency u (x ∷ xs) h w =
       due-counts frequency u xs h (w .1),
     )
 
--- the length rule, of one mode
+-- the blocks of a whole mode are as long as the length rule says of it
 pub mode-rule : (P : Program) (M : Mode) → WholeMode M → modeSize P M ≡ modeLength P M
 mode-rule P M o =
     sum-same (blockSize P M) (λ k. i k + (i k + (i k + (u k + (w k + (w k + (w k + (length (P .sensors) + 2)))))))) n (λ k l. omega arith)

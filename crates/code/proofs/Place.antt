@@ -11,12 +11,13 @@ use Rattle.theory.specs.Lists.{cat}
 use Rattle.theory.proofs.Lists.{sum-apart, cat-length}
 use Rattle.program.specs.Program.{Program, Switch, mode, ticksOf, nextUnit, dueSwitches}
 use Rattle.code.specs.Op.{Op, jump, future, faulty}
-use Rattle.code.specs.Listing.{headSize, blockSize, modeSize, modeAddress, blockAddress, entryAddress, futureAddress, headOf, testsOf, bodyOf, endOf, stubsOf, blockCode, modeCode, listing}
+use Rattle.code.specs.Listing.{headSize, blockSize, modeSize, modeAddress, blockAddress, entryAddress, futureAddress, headOf}
+use Rattle.code.specs.Listing.{testsOf, bodyOf, endOf, stubsOf, blockCode, modeCode, listing}
 use Rattle.code.specs.Compile.{futureDelay, delayAt}
 use Rattle.code.proofs.Length.{tests-length, head-length, body-length, block-length, mode-length}
 use Rattle.code.proofs.At.{At, at-left, at-right, at-tail, at-move, at-within, at-cat, fetch-at}
 
--- at address 0 a jump to unit 0 of the start mode, and then the modes
+-- at address 0 stands a jump to unit 0 of the start mode, and then the modes
 pub start-at : (P : Program) → At (listing P) 0 (jump (blockAddress P (P .start) 0) ∷ cat (modeCode P) (length (P .modes)))
 unfolding listing
 start-at P = record { pre = []; post = []; cut = simp append-nil; from = refl }
@@ -27,13 +28,13 @@ mode-at P m h =
     at-move (modeAddress P m) (omega (arith, cat-length (modeCode P) (λ i. modeSize P (mode P i)) m (λ i l. mode-length P i)))
     (at-cat (modeCode P) (length (P .modes)) m h (at-tail (start-at P)))
 
--- so does each of its blocks
+-- each block of a declared mode stands at its address
 pub block-at : (P : Program) (m k : ℕ) → m < length (P .modes) → k < mode P m .units → At (listing P) (blockAddress P m k) (blockCode P m k)
 block-at P m k h l =
     at-move (blockAddress P m k) (omega (arith, cat-length (blockCode P m) (blockSize P (mode P m)) k (λ j q. block-length P m j)))
     (at-cat (blockCode P m) (mode P m .units) k l (mode-at P m h))
 
--- the parts of a block at their addresses
+-- the parts of the block of unit k of mode m stand at their addresses
 pub record Placed (P : Program) (m k : ℕ) : Type 0 where
   pub head-at : At (listing P) (blockAddress P m k) (headOf P (mode P m) k)
   pub tests-at : At (listing P) (blockAddress P m k + headSize P (mode P m) k) (testsOf (dueSwitches (mode P m) k) (2 + futureAddress P m k))
@@ -41,7 +42,7 @@ pub record Placed (P : Program) (m k : ℕ) : Type 0 where
   pub end-at : At (listing P) (futureAddress P m k) (endOf P m k)
   pub stubs-at : At (listing P) (2 + futureAddress P m k) (stubsOf P k (dueSwitches (mode P m) k))
 
--- that is where they stand
+-- the parts of each block of a declared mode stand at their addresses
 pub placed : (P : Program) (m k : ℕ) → m < length (P .modes) → k < mode P m .units → Placed P m k
 placed P m k h l = record {
   head-at = at-left hd _ b₀;
@@ -80,7 +81,7 @@ pub block-within : (P : Program) (m k : ℕ) → m < length (P .modes) → k < m
     → blockAddress P m k + blockSize P (mode P m) k ≤ length (listing P)
 block-within P m k h l = omega (arith, at-within (block-at P m k h l), block-length P m k)
 
--- the address is one of the block's
+-- address a is one of the block of unit k of mode m
 pub record InBlock (P : Program) (m k a : ℕ) : Type 0 where
   pub begins : blockAddress P m k ≤ a
   pub ends : a < blockAddress P m k + blockSize P (mode P m) k
@@ -89,7 +90,7 @@ pub record InBlock (P : Program) (m k a : ℕ) : Type 0 where
 pub units-apart : (P : Program) (m k k′ : ℕ) → k < k′ → blockAddress P m k + blockSize P (mode P m) k ≤ blockAddress P m k′
 units-apart P m k k′ l = omega (arith, sum-apart (blockSize P (mode P m)) k k′ l)
 
--- and before any block of a later mode
+-- a block ends before any block of a later mode begins
 pub modes-apart : (P : Program) (m k m′ k′ : ℕ) → k < mode P m .units → m < m′
     → blockAddress P m k + blockSize P (mode P m) k ≤ blockAddress P m′ k′
 modes-apart P m k m′ k′ l h =
@@ -115,18 +116,18 @@ block-once P m k m′ k′ a l l′ w w′ = go (decLt m m′) (decLt m′ m)
 pub future-in-block : (P : Program) (m k : ℕ) → InBlock P m k (futureAddress P m k)
 future-in-block P m k = record { begins = omega arith; ends = omega arith }
 
--- two units have two futures
+-- the `future`s of two units stand at two addresses
 pub future-once : (P : Program) (m k m′ k′ : ℕ) → k < mode P m .units → k′ < mode P m′ .units → futureAddress P m k ≡ futureAddress P m′ k′
     → (m ≡ m′) × (k ≡ k′)
 future-once P m k m′ k′ l l′ e =
     block-once P m k m′ k′ (futureAddress P m k) l l′ (future-in-block P m k) (rw e (future-in-block P m′ k′))
 
--- what stands there: one unit's ticks, and the block of the next unit
+-- the `future` of a unit has one unit's ticks and the block of the next unit
 pub future-there : (P : Program) (m k : ℕ) → m < length (P .modes) → k < mode P m .units
     → getD (listing P) (futureAddress P m k) faulty ≡ future (ticksOf (mode P m)) (blockAddress P m (nextUnit (mode P m) k))
 future-there P m k h l = fetch-at (placed P m k h l .end-at)
 
--- its delay is one unit's ticks
+-- the delay of the `future` of a unit is one unit's ticks
 pub delay-there : (P : Program) (m k : ℕ) → m < length (P .modes) → k < mode P m .units
     → delayAt (listing P) (futureAddress P m k) ≡ some (ticksOf (mode P m))
 delay-there P m k h l = ap futureDelay (future-there P m k h l)

@@ -1,5 +1,5 @@
 -- Three words say an instruction exactly where they are its own, unused words 0; so each instruction of a code is told from its words.
--- Assumes nothing; of an instruction by number, that the code has so many.
+-- Assumes of an instruction by number that the code has so many.
 use Prim.Native.Nat.{ℕ, zero, suc, _+_, _*_, _/_, _<_}
 use mathlib.Core.Path.{_≡_, refl, sym, ap, _∙_}
 use mathlib.Core.Bool.{Bool, true, false}
@@ -11,29 +11,30 @@ use lib.ListN.{length, getD}
 use borrow.Author.Tests.{eqb-true}
 use Rattle.cells.specs.Cell.{wordAt}
 use Rattle.cells.specs.Limits.{wordsEach}
-use Rattle.code.specs.Op.{Op, call, schedule, branch, jump, future, return, faulty, callNumber, scheduleNumber, ifNumber, jumpNumber, futureNumber, returnNumber, words, unused, decode, instructions}
+use Rattle.code.specs.Op.{Op, call, schedule, branch, jump, future, return, faulty, callNumber, scheduleNumber, ifNumber}
+use Rattle.code.specs.Op.{jumpNumber, futureNumber, returnNumber, words, unused, decode, instructions}
 use Rattle.code.proofs.Fetch.{instruction-at}
 
 module _ (n a b : ℕ) where
-  -- nothing, or the instruction of these words
+  -- the instruction is faulty, or these three words are its own
   abbrev Right : Op → Type 0
   Right o = (o ≡ faulty) ⊎ (words o ≡ n ∷ a ∷ b ∷ [])
 
-  -- by a test of the number, either is right
+  -- an instruction that is chosen by a test is right where both are
   either : (t : Bool) (o p : Op) → (t ≡ true → Right o) → (t ≡ false → Right p) → Right (elim t [ true ↦ o | false ↦ p ])
   either true o p f g = f refl
   either false o p f g = g refl
 
-  -- an instruction with unused words is right where they are 0
+  -- an instruction with an unused word is right where its words with a 0 there are its own
   if-unused : (c : ℕ) (o : Op) → (c ≡ 0 → words o ≡ n ∷ a ∷ b ∷ []) → Right (unused c o)
   if-unused zero o f = inr (f refl)
   if-unused (suc c) o f = inl refl
 
-  -- these are the words of a number, an argument and 0
+  -- a number, an argument and 0 are these three words where the number is the first and the third is 0
   three : {k : ℕ} → n ≡ k → b ≡ 0 → k ∷ a ∷ 0 ∷ [] ≡ n ∷ a ∷ b ∷ []
   three e z = λ i. sym e i ∷ a ∷ sym z i ∷ []
 
-  -- so what three words say has these words
+  -- what three words say is faulty, or the three words are its own
   decoded : Right (decode n a b)
   decoded =
       either (eqb n callNumber) _ _

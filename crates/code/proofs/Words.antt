@@ -1,5 +1,5 @@
 -- The words of a listing say its instructions, and no others.
--- Assumes nothing: the words of any list of instructions read back, whatever its numbers; of what compiling leaves, that it is not refused.
+-- The words of any list of instructions read back, whatever its numbers. Assumes of what compiling leaves that it is not refused.
 use Prim.Native.Nat.{_*_}
 use mathlib.Core.Path.{_≡_, refl, ap}
 use mathlib.Core.List.{List, [], _∷_}
@@ -13,7 +13,7 @@ use Rattle.code.specs.Op.{Op, call, schedule, branch, jump, future, retu
 use Rattle.code.specs.Listing.{listing}
 use Rattle.code.specs.Compile.{Compiling, listingOf, compileVerdict, compileAnswer, compileSlice, wordsOf}
 
--- what is written reads back
+-- the words of a list of instructions say those instructions
 pub emit-instructions : (os : List Op) → instructions (emit os) ≡ os
 emit-instructions [] = refl
 emit-instructions (call n ∷ os) = ap (λ l. call n ∷ l) (emit-instructions os)
@@ -38,7 +38,7 @@ words-length (future d a) = refl
 words-length return = refl
 words-length faulty = refl
 
--- so a listing has three times its length
+-- the words of a list of instructions are three times as many
 pub emit-length : (os : List Op) → length (emit os) ≡ wordsEach * length os
 emit-length [] = refl
 emit-length (o ∷ os) = omega (arith, length-append (words o) (emit os), words-length o, emit-length os)

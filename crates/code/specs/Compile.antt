@@ -1,5 +1,4 @@
 -- Compiling: the verdict 1 to 11, the length, and the lent slice afterwards; the delay of a `future` of the compiled code.
--- Assumes nothing.
 use Prim.Native.Nat.{ℕ, zero, suc, _*_, _≤_}
 use mathlib.Core.Bool.{Bool, _||_}
 use mathlib.Core.List.{List, [], _∷_, _++_, map}
@@ -20,45 +19,54 @@ use Rattle.code.specs.declared.Compiled.{Compiled}
 unfoldable pub listingOf : Tables → List Op
 listingOf T = listing (programOf T)
 
--- 11 outside compiling: E code exceeds 4,096 instructions
+-- number 11 outside compiling: E code exceeds 4,096 instructions
 unfoldable pub codeLong : Tables → Bool
 codeLong T = ltb maxCode (length (listingOf T))
 
+-- the refusal of tables whose E code exceeds the limit
 abbrev pub longRefusal : Refusal Tables
 longRefusal = record { number = codeRefused; applies = codeLong }
 
+-- the E code of these tables is within the limit
 abbrev pub CodeFits : Tables → Type 0
 CodeFits T = length (listingOf T) ≤ maxCode
 
+-- number 11 outside compiling, as a rule: the E code is within the limit
 abbrev pub longRule : Rule Tables
 longRule = record { number = codeRefused; holds = CodeFits }
 
--- what a call asks that is lent the tables and more: its own 1, then 2 to 11 of the tables, then numbers of its own
-abbrev pub lentRefusals : {A : Type 0} → (A → Tables) → (A → Bool) → List (Refusal A) → List (Refusal A)
-lentRefusals tables shape own =
+-- the refusals of a call that is lent the tables and more: its own 1, then 2 to 11 of the tables, then its own numbers
+abbrev pub callRefusals : {A : Type 0} → (A → Tables) → (A → Bool) → List (Refusal A) → List (Refusal A)
+callRefusals tables shape own =
     record { number = shapeRefused; applies = shape } ∷ (map (within tables) (tableRefusals ++ (longRefusal ∷ [])) ++ own)
 
-abbrev pub lentRules : {A : Type 0} → (A → Tables) → (A → Type 0) → List (Rule A) → List (Rule A)
-lentRules tables shape own =
+-- the rules of a call that is lent the tables and more: its own 1, then 2 to 11 of the tables, then its own rules
+abbrev pub callRules : {A : Type 0} → (A → Tables) → (A → Type 0) → List (Rule A) → List (Rule A)
+callRules tables shape own =
     record { number = shapeRefused; holds = shape } ∷ (map (holding tables) (tableRules ++ (longRule ∷ [])) ++ own)
 
--- compiling is lent a slice too: 11 also where the listing exceeds it
+-- what compiling is lent: the tables, and a slice for the code
 pub record Compiling : Type 0 where
   pub tables : Tables
   pub slice : List ℕ
 
+-- the listing exceeds the slice that was lent
 unfoldable pub sliceShort : Compiling → Bool
 sliceShort L = ltb (length (L .slice)) (wordsEach * length (listingOf (L .tables)))
 
+-- number 11 of compiling: the E code exceeds the limit, or the slice that was lent
 abbrev pub sliceRefusals : List (Refusal Compiling)
 sliceRefusals = record { number = codeRefused; applies = λ L. codeLong (L .tables) || sliceShort L } ∷ []
 
+-- the refusals of compiling: 1 to 10 of the tables, then 11
 abbrev pub compileRefusals : List (Refusal Compiling)
 compileRefusals = map (within (λ (L : Compiling). L .tables)) (shapeRefusal ∷ tableRefusals) ++ sliceRefusals
 
+-- the number of the first refusal of compiling that applies
 unfoldable pub compileVerdict : Compiling → ℕ
 compileVerdict L = verdict compileRefusals L
 
+-- number 11 of compiling, as a rule: the E code is within the limit and fits the slice
 abbrev pub sliceRules : List (Rule Compiling)
 sliceRules =
     record {
@@ -67,16 +75,18 @@ sliceRules =
     }
     ∷ []
 
+-- the rules of compiling: those of the tables, then 11
 abbrev pub compileRules : List (Rule Compiling)
 compileRules = map (holding (λ (L : Compiling). L .tables)) programRules ++ sliceRules
 
--- the answer, and the slice as it is left
+-- what compiling answers: accepted with the length of the listing, or a refusal with length 0
 abbrev pub compileAnswer : Compiling → Compiled
 compileAnswer L = elim (compileVerdict L) [
   | zero ↦ record { number = acceptedNumber; length = length (listingOf (L .tables)) }
   | suc n ↦ record { number = suc n; length = 0 }
 ]
 
+-- the slice as compiling leaves it: the words of the listing and then the rest as it was, or all as it was
 abbrev pub compileSlice : Compiling → List ℕ
 compileSlice L = elim (compileVerdict L) [
   | zero ↦ emit (listingOf (L .tables)) ++ drop (wordsEach * length (listingOf (L .tables))) (L .slice)
@@ -87,7 +97,7 @@ compileSlice L = elim (compileVerdict L) [
 abbrev pub wordsOf : Compiling → List ℕ
 wordsOf L = take (wordsEach * compileAnswer L .length) (compileSlice L)
 
--- the delay of the `future` at an address of a code, or none
+-- the delay of an instruction that is a `future`, or none
 abbrev pub futureDelay : Op → Option ℕ
 futureDelay (call n) = none
 futureDelay (schedule t) = none
@@ -97,5 +107,6 @@ futureDelay (future d a) = some d
 futureDelay return = none
 futureDelay faulty = none
 
+-- the delay of the `future` at an address of a code, or none
 abbrev pub delayAt : List Op → ℕ → Option ℕ
 delayAt code a = futureDelay (getD code a faulty)

@@ -1,5 +1,4 @@
 -- E code: an instruction is three words, unused words 0. What the words of a code say.
--- Assumes nothing.
 use Prim.Native.Nat.{ℕ, zero, suc, _+_}
 use mathlib.Core.Bool.{true, false}
 use mathlib.Core.List.{List, [], _∷_, _++_}
@@ -38,6 +37,7 @@ returnNumber = 5
 abbrev pub noNumber : ℕ
 noNumber = 6
 
+-- the three words of an instruction
 abbrev pub words : Op → List ℕ
 words (call n) = callNumber ∷ n ∷ 0 ∷ []
 words (schedule t) = scheduleNumber ∷ t ∷ 0 ∷ []
@@ -47,12 +47,12 @@ words (future d a) = futureNumber ∷ d ∷ a ∷ []
 words return = returnNumber ∷ 0 ∷ 0 ∷ []
 words faulty = noNumber ∷ 0 ∷ 0 ∷ []
 
--- the words of a listing
+-- the words of a list of instructions, one after the other
 abbrev pub emit : List Op → List ℕ
 emit [] = []
 emit (o ∷ os) = words o ++ emit os
 
--- an instruction whose unused words must be 0
+-- an instruction whose unused word must be 0, else faulty
 abbrev pub unused : ℕ → Op → Op
 unused zero o = o
 unused (suc n) o = faulty

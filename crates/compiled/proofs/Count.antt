@@ -10,19 +10,20 @@ use Rattle.program.specs.Program.{Program, mode, dueInvocations, dueSwitches}
 use Rattle.code.specs.Listing.{headSize, listing}
 use Rattle.code.proofs.Place.{block-within, units-apart, modes-apart}
 
--- tests and all that stands before them; what stands between the entry and the stubs
+-- how many instructions of a block stand before its entry: the head and the switch tests
 abbrev pub beforeEntry : Program → ℕ → ℕ → ℕ
 beforeEntry P m k = headSize P (mode P m) k + length (dueSwitches (mode P m) k)
 
+-- how many instructions of a block stand between its entry and its stubs: the body, `future` and `return`
 abbrev pub behindEntry : Program → ℕ → ℕ → ℕ
 behindEntry P m k = 2 * length (dueInvocations (mode P m) k) + 2
 
 module _ (P : Program) (m k : ℕ) (h : m < length (P .modes)) (l : k < mode P m .units) where
-  -- without a switch
+  -- an instant without a switch needs fewer instructions than the listing has
   pub staying : beforeEntry P m k + behindEntry P m k < length (listing P)
   staying = omega (arith, block-within P m k h l)
 
-  -- with a switch, which is one of those that are due
+  -- an instant with a switch, one of those that are due, needs fewer instructions than the listing has
   pub turning : (m′ k′ : ℕ) → m′ < length (P .modes) → k′ < mode P m′ .units → 1 ≤ length (dueSwitches (mode P m) k)
       → beforeEntry P m k + 2 + behindEntry P m′ k′ < length (listing P)
   turning m′ k′ h′ l′ w = go (decLt m m′) (decLt m′ m)

@@ -49,14 +49,14 @@ module _ (T : Tables) (a : programVerdict T ≡ acceptedNumber) (readings times 
   abbrev P : Program
   P = programOf T
 
-  -- from address 0: a jump to the block of unit 0 of the start mode
+  -- a run from address 0 jumps to the block of unit 0 of the start mode
   start-run : (count : ℕ) (s : State) → P .start < length (P .modes) → 0 < mode P (P .start) .units
       → from P readings times (listing P) (suc count) 0 s ≡ from P readings times (listing P) count (blockAddress P (P .start) 0) s
   start-run count s h l =
       stepped P readings times (listing P) count (record { address = 0; planned = false; state = s }) (jump (blockAddress P (P .start) 0))
       (place.fetch-at (start-at P)) (lt-leb (length (listing P)) (blockAddress P (P .start) 0) (block-inside P (P .start) 0 h l)) refl
 
-  -- the code does the instant
+  -- the compiled code, run from a block, does the instant
   pub code-does : (m k : ℕ) (s : State) → AtBlock T m k s → runInstant P readings times (listingOf T) s ≡ blockInstant P readings times m k s
   unfolding listingOf
   code-does m k s b = go (b .pending)
@@ -82,12 +82,12 @@ module _ (T : Tables) (a : programVerdict T ≡ acceptedNumber) (readings times 
           ∙ ap (λ (p : ℕ). from P readings times (listing P) (n - 1) p s) z
           ∙ block-run T a readings times m k (b .declared) (b .in-round) (n - 1) s (omega arith)
 
-  -- and so do its words
+  -- the words of the compiled code, run from a block, do the instant
   pub words-do : (m k : ℕ) (s : State) → AtBlock T m k s
       → runInstant P readings times (instructions (emit (listingOf T))) s ≡ blockInstant P readings times m k s
   words-do m k s b = ap (λ (code : List Op). runInstant P readings times code s) (emit-instructions (listingOf T)) ∙ code-does m k s b
 
-  -- it is refused only with 17, where the times that are lent are in their ranges
+  -- an instant is refused only with 17 where the times that are lent are in their ranges
   pub only-late : ((t : ℕ) → t < taskCount T → InRange (numAt times t) (task P t .worst))
       → (m k : ℕ) (s : State) (n : ℕ) → AtBlock T m k s → blockInstant P readings times m k s ≡ stop n → n ≡ overrunRefused
   only-late r m k s n b e =

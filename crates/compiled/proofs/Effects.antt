@@ -43,14 +43,14 @@ module _ (P : Program) (readings times : List ℤ) where
       ap (unless (timeBad P times (opOf o)) (stillRunning s (opOf o))) (through-both fs gs (effect P readings times o s))
       ∙ sym (then-unless (timeBad P times (opOf o)) (stillRunning s (opOf o)) (through P readings times fs (effect P readings times o s)) (through P readings times gs))
 
-  -- a call of a known kind that ends no running task
+  -- a call of a known kind that ends no running task leads to what it does, and then to the steps after it
   call-step : (n : ℕ) (c : Call) (os : List Straight) (s : State) → callOf n ≡ c → stillCalled s c ≡ false
       → through P readings times (calls n ∷ os) s ≡ through P readings times os (called P readings times s c)
   call-step n c os s e q =
       ap (λ (c : Call). unless false (stillCalled s c) (through P readings times os (called P readings times s c))) e
       ∙ ap (λ (b : Bool). unless false b (through P readings times os (called P readings times s c))) q
 
-  -- a release of a task that has ended, with a time in range
+  -- a release of a task that has ended, with a time in range, sets its remaining time and leads to the steps after it
   release-step : (t : ℕ) (os : List Straight) (s : State) → InRange (numAt times t) (task P t .worst) → leftOf (s .left) t ≡ 0
       → through P readings times (releases t ∷ os) s ≡ through P readings times os (withLeft s (set (s .left) t (numAt times t)))
   release-step t os s r z =
@@ -62,7 +62,7 @@ module _ (P : Program) (readings times : List ℤ) where
   abbrev pub outputPuts : State → List ℕ → List Put
   outputPuts s ts = gather (λ t. takes (valueOf (s .outputs)) (task P t .outputs)) ts
 
-  -- output copies of tasks that have ended: the tasks' local outputs are put into the ports
+  -- output copies of tasks that have ended put the tasks' local outputs into the ports
   pub outputs-lead : (ts : List ℕ) (s : State) → ((t : ℕ) → member t ts ≡ true → t < maxTasks) → ((t : ℕ) → member t ts ≡ true → leftOf (s .left) t ≡ 0)
       → through P readings times (map (λ t. calls (firstOutputCall + t)) ts) s ≡ ok (withPorts s (puts (outputPuts s ts) (s .ports)))
   outputs-lead [] s d z = refl
@@ -73,7 +73,7 @@ module _ (P : Program) (readings times : List ℤ) where
       ∙ outputs-lead ts (withPorts s v) (λ u m. d u (member-tail u t ts m)) (λ u m. z u (member-tail u t ts m))
       ∙ ap (λ (w : List ℤ). ok (withPorts s w)) (sym (puts-append (takes (valueOf (s .outputs)) (task P t .outputs)) (outputPuts s ts) (s .ports)))
 
-  -- drivers of rows: one after the other
+  -- calls of the drivers of rows let them copy one after the other
   drivers-each : {R : Type 0} (f : R → ℕ) (rows : List R) (s : State) → (Has (λ r. firstOutputCall ≤ f r) rows → ⊥)
       → through P readings times (map (λ r. calls (f r)) rows) s ≡ ok (withPorts s (driveEach (map (λ r. driver P (f r)) rows) (s .ports)))
   drivers-each f [] s h = refl
@@ -82,7 +82,7 @@ module _ (P : Program) (readings times : List ℤ) where
       call-step (f r) (driverCall (f r)) (map (λ r. calls (f r)) rows) s (driver-range (f r) (omega arith)) refl
       ∙ drivers-each f rows (withPorts s (drive (driver P (f r)) (s .ports))) (λ g. h (inr g))
 
-  -- and so at once, where none of them writes what one of them reads
+  -- calls of the drivers of rows let them copy at once, where none of them writes what one of them reads
   pub drivers-lead : {R : Type 0} (f : R → ℕ) (rows : List R) (s : State)
       → (Has (λ r. firstOutputCall ≤ f r) rows → ⊥) → Unmixed (map (λ r. driver P (f r)) rows)
       → through P readings times (map (λ r. calls (f r)) rows) s ≡ ok (withPorts s (driveAll (map (λ r. driver P (f r)) rows) (s .ports)))
@@ -90,7 +90,7 @@ module _ (P : Program) (readings times : List ℤ) where
       drivers-each f rows s h
       ∙ ap (λ (v : List ℤ). ok (withPorts s v)) (drive-once (map (λ r. driver P (f r)) rows) (s .ports) u)
 
-  -- sensors: each port takes its reading
+  -- calls that read sensors let each port take its reading
   pub sensors-lead : (ps : List ℕ) (s : State)
       → through P readings times (map (λ p. calls (firstSensorCall + p)) ps) s ≡ ok (withPorts s (puts (takes (valueOf readings) ps) (s .ports)))
   sensors-lead [] s = refl
@@ -98,7 +98,7 @@ module _ (P : Program) (readings times : List ℤ) where
       call-step (firstSensorCall + p) (sensorCall p) (map (λ p. calls (firstSensorCall + p)) ps) s (sensor-range p) refl
       ∙ sensors-lead ps (withPorts s (set (s .ports) p (valueOf readings p)))
 
-  -- releases of tasks that have ended: their times are their remaining times
+  -- releases of tasks that have ended make their times their remaining times
   pub releases-lead : (ts : List ℕ) (s : State) → Distinct ts → ((t : ℕ) → member t ts ≡ true → leftOf (s .left) t ≡ 0)
       → ((t : ℕ) → member t ts ≡ true → InRange (numAt times t) (task P t .worst))
       → through P readings times (map releases ts) s ≡ ok (withLeft s (release ts (numAt times) (s .left)))

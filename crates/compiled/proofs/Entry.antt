@@ -35,15 +35,15 @@ use Rattle.compiled.proofs.Named.{body-named}
 pub head-ops : (P : Program) (M : Mode) (k : ℕ) → map opOf (headSteps P M k) ≡ headOf P M k
 head-ops P M k = simp (map-append, map-map)
 
--- those from the entry on too
+-- the steps of a block from its entry on are its instructions there
 body-ops : (M : Mode) (k : ℕ) → map opOf (bodySteps M k) ≡ bodyOf M k
 body-ops M k = simp (map-append, map-map)
 
--- they are as many as the block's sizes say: up to the switch tests
+-- the steps of a block up to the switch tests are as many as its size says
 pub head-count : (P : Program) (M : Mode) (k : ℕ) → length (headSteps P M k) ≡ headSize P M k
 head-count P M k = simp (length-append, length-map)
 
--- and from the entry on
+-- the steps of a block from its entry on are as many as its size says
 pub body-count : (M : Mode) (k : ℕ) → length (bodySteps M k) ≡ 2 * length (dueInvocations M k)
 body-count M k = simp (length-append, length-map) (omega arith)
 
@@ -56,7 +56,7 @@ module _ (T : Tables) (a : programVerdict T ≡ acceptedNumber) (readings times 
     delay-right : not (inRange (ticksOf (mode P m)) maxDelay) ≡ false
     delay-right = ap not (is-true (range-says (ticksOf (mode P m)) maxDelay) (accepted-ticks T a m (omega (arith, mode-count T))))
 
-    -- the end of a unit
+    -- the `future` and `return` at the end of a block begin the unit
     end-run : (count : ℕ) (s : State) → from P readings times (listing P) (suc (suc count)) (futureAddress P m k) s ≡ ok (begun P readings times m k s)
     end-run count s =
         let to : ℕ = blockAddress P m (nextUnit (mode P m) k) in
@@ -67,7 +67,7 @@ module _ (T : Tables) (a : programVerdict T ≡ acceptedNumber) (readings times 
         ∙ returned P readings times (listing P) count (record { address = suc (futureAddress P m k); planned = true; state = begun P readings times m k s })
         (place.fetch-at (place.at-tail e)) refl
 
-    -- from the entry to `return`
+    -- a run from the entry of a block to its `return` comes to what `entered` says
     pub entry-run : (count : ℕ) (s : State)
         → from P readings times (listing P) (length (bodySteps (mode P m) k) + suc (suc count)) (entryAddress P m k) s ≡ entered P readings times m k s
     unfolding entered

@@ -14,7 +14,8 @@ use Rattle.theory.proofs.Members.{Has}
 use Rattle.cells.specs.Cell.{numAt}
 use Rattle.cells.specs.Limits.{maxTasks, firstOutputCall, firstSensorCall}
 use Rattle.program.specs.Tables.{Tables, modeCount}
-use Rattle.program.specs.Program.{Program, Mode, Invocation, Update, programOf, task, mode, dueInvocations, dueUpdates, dueSwitches, dueTasks}
+use Rattle.program.specs.Program.{Program, Mode, Invocation, Update, programOf, task, mode, dueInvocations, dueUpdates, dueSwitches}
+use Rattle.program.specs.Program.{dueTasks}
 use Rattle.program.proofs.Decoded.{has-invocations, has-updates}
 use Rattle.rules.specs.Fields.{InRange}
 use Rattle.rules.specs.Verdict.{programVerdict}
@@ -28,8 +29,9 @@ use Rattle.giotto.proofs.Once.{due-once}
 use Rattle.machine.specs.declared.State.{State}
 use Rattle.machine.specs.Change.{withPorts, withLeft}
 use Rattle.machine.specs.Instant.{Outcome, ok}
-use Rattle.compiled.specs.Block.{Straight, calls, releases, andThen, headSteps, through, switched, begun, entered, turned, blockInstant}
-use Rattle.compiled.specs.Done.{seen, local, modeEntered, unitEntered, switchTaken, tasksReleased, done}
+use Rattle.compiled.specs.Block.{Straight, calls, releases, andThen, headSteps, through, switched, begun, entered, turned}
+use Rattle.compiled.specs.Block.{blockInstant}
+use Rattle.compiled.specs.Done.{seen, local, modeEntered, unitEntered, switchTaken, tasksReleased, afterInstant}
 use Rattle.compiled.proofs.Named.{driver-number}
 use Rattle.compiled.proofs.Unmixed.{updates-unmixed, invocations-unmixed}
 use Rattle.compiled.proofs.Effects.{through-both, outputPuts, outputs-lead, drivers-lead, sensors-lead, releases-lead}
@@ -40,22 +42,23 @@ module _ (T : Tables) (a : programVerdict T ≡ acceptedNumber) where
   P = programOf T
 
   module _ (m k : ℕ) (l : m < modeCount T) where
-    -- the mode
+    -- mode m of the program
     abbrev M : Mode
     M = mode P m
 
-    -- the numbers of due updates' drivers are such call numbers, and those of due invocations' drivers
+    -- the drivers of due updates have call numbers of drivers
     update-calls : Has (λ r. firstOutputCall ≤ r .driver) (dueUpdates M k) → ⊥
     update-calls h =
         let (i, b, o, d, q) = has-updates T m k l (λ r. firstOutputCall ≤ r .driver) .0 h in
         omega (arith, q, driver-number T a _ (accepted-fields T a .updates i b .driver))
 
+    -- the drivers of due invocations have call numbers of drivers
     invocation-calls : Has (λ r. firstOutputCall ≤ r .driver) (dueInvocations M k) → ⊥
     invocation-calls h =
         let (i, b, o, d, q) = has-invocations T m k l (λ r. firstOutputCall ≤ r .driver) .0 h in
         omega (arith, q, driver-number T a _ (accepted-fields T a .invocations i b .driver))
 
-    -- a due task is within the limit
+    -- the number of a due task is within the limit
     due-few : (t : ℕ) → member t (dueTasks M k) ≡ true → t < maxTasks
     due-few t e = omega (arith, due-declared T a m k t l e, tasks-few T (accepted-shaped T a))
 
@@ -72,7 +75,7 @@ module _ (T : Tables) (a : programVerdict T ≡ acceptedNumber) where
       invocations-lead s =
           drivers-lead P readings times (λ (r : Invocation). r .driver) (dueInvocations M k) s invocation-calls (invocations-unmixed T a m k l)
 
-      -- the calls of (1) to (3): the ports are what Giotto's steps 1 to 3 leave
+      -- the calls of (1) to (3) leave the ports that Giotto's steps 1 to 3 leave
       head-leads : (s : State) → ((t : ℕ) → member t (dueTasks M k) ≡ true → leftOf (s .left) t ≡ 0)
           → through P readings times (headSteps P M k) s
           ≡ ok (withPorts s (sensed P (local s) readings (seen m k s)))
@@ -91,7 +94,7 @@ module _ (T : Tables) (a : programVerdict T ≡ acceptedNumber) where
           ∙ sensors-lead P readings times (P .sensors) (withPorts s (afterUpdates P M k v))
           ∙ ap (λ (w : List ℤ). ok (withPorts s (afterSensors P readings (afterUpdates P M k w)))) e
 
-      -- the calls and releases of (5) and (6), and (7): the ports are what Giotto's step 5 leaves, and the due tasks are released
+      -- (5) to (7) leave the ports that Giotto's step 5 leaves, release the due tasks, and begin the next unit
       enters : (s : State) → ((t : ℕ) → member t (dueTasks M k) ≡ true → leftOf (s .left) t ≡ 0)
           → ((t : ℕ) → member t (dueTasks M k) ≡ true → InRange (numAt times t) (task P t .worst))
           → entered P readings times m k s
@@ -113,8 +116,8 @@ pub instant-done : (T : Tables) → programVerdict T ≡ acceptedNumber → (rea
     → ((t : ℕ) → member t (dueTasks (mode (programOf T) m) k) ≡ true → leftOf (s .left) t ≡ 0)
     → ((t : ℕ) → member t (tasksReleased (programOf T) readings m k s) ≡ true → leftOf (s .left) t ≡ 0)
     → ((t : ℕ) → member t (tasksReleased (programOf T) readings m k s) ≡ true → InRange (numAt times t) (task (programOf T) t .worst))
-    → blockInstant (programOf T) readings times m k s ≡ ok (done (programOf T) readings m k s times)
-unfolding blockInstant done
+    → blockInstant (programOf T) readings times m k s ≡ ok (afterInstant (programOf T) readings m k s times)
+unfolding blockInstant afterInstant
 instant-done T a readings times m k s l ended free fair =
     let P : Program = programOf T in
     let v : List ℤ = sensed P (local s) readings (seen m k s) in

@@ -15,9 +15,11 @@ use Rattle.theory.proofs.Bools.{is-true}
 use Rattle.theory.proofs.Lists.{every-keep, every-those, every-map, every-append, every-image}
 use Rattle.theory.proofs.Members.{has-those, member-says, every-member}
 use Rattle.cells.specs.Limits.{maxDrivers, firstOutputCall, firstSensorCall}
-use Rattle.program.specs.Tables.{Tables, portCount, sensor, taskCount, driverWidth, driverCount, modeCount, invocationCount, updateCount, switchCount}
+use Rattle.program.specs.Tables.{Tables, portCount, sensor, taskCount, driverWidth, driverCount, modeCount, invocationCount, updateCount}
+use Rattle.program.specs.Tables.{switchCount}
 use Rattle.program.specs.Sets.{isKind}
-use Rattle.program.specs.Program.{Program, Mode, Invocation, Update, Switch, invocationRow, updateRow, switchRow, programOf, mode, dueInvocations, dueUpdates, dueSwitches, dueTasks}
+use Rattle.program.specs.Program.{Program, Mode, Invocation, Update, Switch, invocationRow, updateRow, switchRow, programOf, mode}
+use Rattle.program.specs.Program.{dueInvocations, dueUpdates, dueSwitches, dueTasks}
 use Rattle.program.proofs.Decoded.{task-count, driver-count, mode-count, mode-row}
 use Rattle.rules.specs.Verdict.{programVerdict}
 use Rattle.rules.proofs.Shape.{whole-few, tasks-few}
@@ -41,7 +43,7 @@ module _ (T : Tables) (a : programVerdict T ≡ acceptedNumber) where
   pub driver-number : (d : ℕ) → d < driverCount T → d < firstOutputCall
   driver-number d l = omega (arith, whole-few driverWidth maxDrivers (T .drivers) (accepted-shaped T a .drivers))
 
-  -- so a call of it names it
+  -- a call of a declared driver names it
   driver-named : (d : ℕ) → d < driverCount T → Names P (calls d)
   driver-named d l n planned = ap (namesNothing P) (driver-range d (driver-number d l)) ∙ lt-leb (length (P .drivers)) d (omega (arith, driver-count T))
 
@@ -58,18 +60,18 @@ module _ (T : Tables) (a : programVerdict T ≡ acceptedNumber) where
   release-named : (t : ℕ) → t < taskCount T → Names P (releases t)
   release-named t l n planned = lt-leb (length (P .tasks)) t (omega (arith, task-count T))
 
-  -- the sensors that are read are the sensors
+  -- the sensors that are read are the sensors of the program
   sensors-read : Every (λ p. member p (P .sensors) ≡ true) (P .sensors)
   sensors-read =
       every-those (λ p. member p (P .sensors) ≡ true) (isKind T sensor) (λ p. p) (portCount T) 0
       (λ p l h q. is-true (member-says p (P .sensors)) (has-those (λ x. p ≡ x) (isKind T sensor) (λ p. p) (portCount T) .1 (p, omega arith, q, refl)))
 
   module _ (m k : ℕ) (l : m < modeCount T) where
-    -- the due tasks are declared
+    -- the tasks that are due in a declared mode are declared
     pub tasks-declared : Every (λ t. t < taskCount T) (dueTasks (mode P m) k)
     tasks-declared = every-member (λ t. t < taskCount T) (dueTasks (mode P m) k) (λ t e. due-declared T a m k t l e)
 
-    -- what stands before the switch tests names something
+    -- the calls of a block before its switch tests name something
     pub head-named : Every (Names P) (headSteps P (mode P m) k)
     head-named =
         every-append (Names P) (map (λ t. calls (firstOutputCall + t)) (dueTasks (mode P m) k)) _
@@ -85,7 +87,7 @@ module _ (T : Tables) (a : programVerdict T ≡ acceptedNumber) where
             (every-those _ _ (updateRow T) (updateCount T) 0
             (λ i h g q. driver-named (updateRow T i .driver) (accepted-fields T a .updates i (omega arith) .driver))))
 
-    -- what stands behind the entry names something
+    -- the calls and releases of a block behind its entry name something
     pub body-named : Every (Names P) (bodySteps (mode P m) k)
     body-named =
         every-append (Names P) (map (λ (r : Invocation). calls (r .driver)) (dueInvocations (mode P m) k)) _

@@ -1,5 +1,5 @@
 -- An instant is refused only with 16 and 17; its parts with 17 only, where the times that are lent for the tasks they release are in
--- their ranges. Assumes nothing but the latter.
+-- their ranges. Assumes the latter.
 use Prim.Native.Nat.{ℕ, _+_}
 use mathlib.Core.Path.{_≡_, refl, ap}
 use mathlib.Core.Bool.{false, not}
@@ -21,11 +21,12 @@ use Rattle.machine.specs.declared.State.{State}
 use Rattle.machine.specs.Instruction.{timeBad, stillRunning}
 use Rattle.machine.specs.Instant.{ok, stop}
 use Rattle.machine.proofs.Outcomes.{ok-not-stop}
-use Rattle.compiled.specs.Block.{Straight, calls, releases, opOf, effect, headSteps, bodySteps, through, begun, entered, turned, blockInstant}
+use Rattle.compiled.specs.Block.{Straight, calls, releases, opOf, effect, headSteps, bodySteps, through, begun, entered, turned}
+use Rattle.compiled.specs.Block.{blockInstant}
 use Rattle.compiled.proofs.Then.{unless-stops, then-stops}
 
 module _ (P : Program) (readings times : List ℤ) where
-  -- 16 or 17
+  -- calls and releases are refused only with 16 or 17
   pub through-two : (os : List Straight) (s : State) (n : ℕ) → through P readings times os s ≡ stop n
       → (n ≡ timeRefused) ⊎ (n ≡ overrunRefused)
   through-two [] s n = λ e. absurd (ok-not-stop e)
@@ -33,7 +34,7 @@ module _ (P : Program) (readings times : List ℤ) where
       unless-stops ((n ≡ timeRefused) ⊎ (n ≡ overrunRefused)) (timeBad P times (opOf o)) (stillRunning s (opOf o)) (through P readings times os (effect P readings times o s)) n
       (λ t e. inl e) inr (through-two os (effect P readings times o s) n)
 
-  -- 17 where no time is bad
+  -- calls and releases are refused only with 17 where no time is bad
   pub through-late : (os : List Straight) (s : State) (n : ℕ) → Every (λ o. timeBad P times (opOf o) ≡ false) os
       → through P readings times os s ≡ stop n → n ≡ overrunRefused
   through-late [] s n h = λ e. absurd (ok-not-stop e)
@@ -41,11 +42,11 @@ module _ (P : Program) (readings times : List ℤ) where
       unless-stops (n ≡ overrunRefused) (timeBad P times (opOf o)) (stillRunning s (opOf o)) (through P readings times os (effect P readings times o s)) n
       (λ t e. clash t (h .0)) (λ e. e) (through-late os (effect P readings times o s) n (h .1))
 
-  -- what is called needs no time
+  -- a call needs no time, so its time is not bad
   calls-timed : {A : Type 0} (f : A → ℕ) (xs : List A) → Every (λ o. timeBad P times (opOf o) ≡ false) (map (λ x. calls (f x)) xs)
   calls-timed f xs = every-image _ (λ x. calls (f x)) xs (every-all _ xs (λ x. refl))
 
-  -- so what stands before the switch tests is refused with 17 only
+  -- the calls of a block before its switch tests are refused only with 17
   pub head-late : (M : Mode) (k : ℕ) (s : State) (n : ℕ) → through P readings times (headSteps P M k) s ≡ stop n → n ≡ overrunRefused
   head-late M k s n e =
       through-late (headSteps P M k) s n
@@ -53,7 +54,7 @@ module _ (P : Program) (readings times : List ℤ) where
       (every-append _ (map (λ (r : Update). calls (r .driver)) (dueUpdates M k)) _ (calls-timed (λ (r : Update). r .driver) (dueUpdates M k))
       (calls-timed (λ p. firstSensorCall + p) (P .sensors)))) e
 
-  -- from the entry: 16 or 17
+  -- an instant is refused from the entry on only with 16 or 17
   pub entered-two : (m k : ℕ) (s : State) (n : ℕ) → entered P readings times m k s ≡ stop n → (n ≡ timeRefused) ⊎ (n ≡ overrunRefused)
   unfolding entered
   entered-two m k s n e =
@@ -61,7 +62,7 @@ module _ (P : Program) (readings times : List ℤ) where
       (λ u. ok (begun P readings times m k u)) n
       (through-two (bodySteps (mode P m) k) s n) (λ v p f. absurd (ok-not-stop f)) e
 
-  -- 17 where the times of the tasks that are released are in their ranges
+  -- an instant is refused from the entry on only with 17 where the times of the tasks released are in their ranges
   pub entered-late : (m k : ℕ) (s : State) (n : ℕ) → Every (λ t. InRange (numAt times t) (task P t .worst)) (dueTasks (mode P m) k)
       → entered P readings times m k s ≡ stop n → n ≡ overrunRefused
   unfolding entered
@@ -76,7 +77,7 @@ module _ (P : Program) (readings times : List ℤ) where
           (every-image _ releases (dueTasks (mode P m) k)
           (every-map _ _ (dueTasks (mode P m) k) (λ t r. ap not (is-true (range-says (numAt times t) (task P t .worst)) r)) h))
 
-  -- the whole instant: it is refused before the switch tests, or from the entry
+  -- an instant that is refused is refused before the switch tests, or from the entry on
   pub block-stops : (R : Type 0) (m k : ℕ) (s : State) (n : ℕ) → (through P readings times (headSteps P (mode P m) k) s ≡ stop n → R)
       → ((u : State) (w : Option Switch) → taken P (u .ports) (dueSwitches (mode P m) k) ≡ w → turned P readings times m k w u ≡ stop n → R)
       → blockInstant P readings times m k s ≡ stop n → R

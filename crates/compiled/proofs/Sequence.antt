@@ -10,29 +10,31 @@ use Rattle.theory.specs.Lists.{gather, Put, puts}
 use Rattle.theory.proofs.Bools.{is-false}
 use Rattle.theory.proofs.Members.{Has, has-as, has-map, member-says}
 use Rattle.theory.proofs.Puts.{puts-append, puts-other}
-use Rattle.cells.specs.Reading.{inside}
+use Rattle.readings.specs.Reading.{inside}
 use Rattle.program.specs.Guard.{Guard, always, interval, holds}
 use Rattle.program.specs.Program.{Copy, Driver}
 use Rattle.program.specs.Ports.{valueOf, moves, drive, driveAll}
 use Rattle.program.proofs.Ports.{moves-miss}
 
--- the drivers one after the other
+-- the port values after drivers copy one after the other
 abbrev pub driveEach : List Driver → List ℤ → List ℤ
 driveEach [] v = v
 driveEach (D ∷ Ds) v = driveEach Ds (drive D v)
 
--- a driver reads the port of its interval guard and the sources of its copies, and writes their destinations
+-- an interval guard reads its port, a guard that always holds reads none
 abbrev pub GuardReads : Guard → ℕ → Type 0
 GuardReads always p = ⊥
 GuardReads (interval q low high) p = q ≡ p
 
+-- a driver reads the port of its interval guard and the sources of its copies
 abbrev pub Reads : Driver → ℕ → Type 0
 Reads D p = GuardReads (D .guard) p ⊎ Has (λ c. c .source ≡ p) (D .copies)
 
+-- a driver writes the destinations of its copies
 abbrev pub Writes : Driver → ℕ → Type 0
 Writes D p = Has (λ c. c .destination ≡ p) (D .copies)
 
--- none of the drivers writes what one of them reads
+-- none of the drivers of a list writes what one of them reads
 abbrev pub Unmixed : List Driver → Type 0
 Unmixed Ds = (p : ℕ) → Has (λ D. Writes D p) Ds → Has (λ D. Reads D p) Ds → ⊥
 
@@ -42,7 +44,7 @@ module _ (v w : List ℤ) where
   holds-same always h = refl
   holds-same (interval q low high) h = ap (λ (x : ℤ). inside low x high) (h q refl)
 
-  -- copies move alike where the two agree on the sources
+  -- copies move alike from two lists of values that agree on the sources
   copies-same : (cs : List Copy) → ((p : ℕ) → Has (λ c. c .source ≡ p) cs → valueOf w p ≡ valueOf v p)
       → _≡_ {A = List Put} (map (λ c. record { place = c .destination; value = valueOf w (c .source) }) cs)
       (map (λ c. record { place = c .destination; value = valueOf v (c .source) }) cs)
@@ -51,7 +53,7 @@ module _ (v w : List ℤ) where
       ap₂ (λ (x : ℤ) (l : List Put). record { place = c .destination; value = x } ∷ l) (h (c .source) (inl refl))
       (copies-same cs (λ p m. h p (inr m)))
 
-  -- so a driver moves alike where the two agree on what it reads
+  -- a driver moves alike from two lists of values that agree on what it reads
   moves-same : (D : Driver) → ((p : ℕ) → Reads D p → valueOf w p ≡ valueOf v p) → moves w D ≡ moves v D
   moves-same D h =
       ap₂ (λ (b : Bool) (l : List Put). elim b as (λ b. List Put) [ true ↦ l | false ↦ [] ]) (holds-same (D .guard) (λ p m. h p (inl m)))

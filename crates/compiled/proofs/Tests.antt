@@ -28,14 +28,14 @@ use Rattle.compiled.specs.Block.{unless, switched}
 use Rattle.compiled.proofs.Steps.{stepped}
 use Rattle.compiled.proofs.Through.{from}
 
--- a switch of unit k whose driver is declared, whose driver's number is that of a driver, and whose entry stands among n instructions
+-- a switch of unit k names a declared driver, with the call number of one, and its entry stands among n instructions
 pub record Aimed (P : Program) (n k : ℕ) (w : Switch) : Type 0 where
   pub declared : w .driver < length (P .drivers)
   pub number : w .driver < firstOutputCall
   pub entry : entryAddress P (w .target) (enteredUnit k w) < n
 
 module _ (P : Program) (readings times : List ℤ) (code : List Op) where
-  -- a test goes to the stub where the driver's guard holds
+  -- a switch test goes to its stub where the driver's guard holds, else to the next instruction
   test : (count a d stub : ℕ) (s : State) (more : List Op) → place.At code a (branch d stub ∷ more) → d < length (P .drivers) → stub < length code
       → from P readings times code (suc count) a s
       ≡ from P readings times code count (elim (holds (driver P d .guard) (valueOf (s .ports))) [ true ↦ stub | false ↦ suc a ]) s
@@ -52,7 +52,7 @@ module _ (P : Program) (readings times : List ℤ) (code : List Op) where
       (ap (namesNothing P) e ∙ lt-leb (length (P .drivers)) d l) refl
       ∙ (λ i. unless false (stillCalled s (e i)) (from P readings times code count (suc a) (called P readings times s (e i))))
 
-  -- a stub calls the switch's driver and jumps to the entry
+  -- the stub of a switch calls its driver and jumps to the entry of its target
   stub-run : (k count a : ℕ) (w : Switch) (s : State) (more : List Op) → Aimed P (length code) k w
       → place.At code a (call (w .driver) ∷ jump (entryAddress P (w .target) (enteredUnit k w)) ∷ more)
       → from P readings times code (suc (suc count)) a s
@@ -63,7 +63,7 @@ module _ (P : Program) (readings times : List ℤ) (code : List Op) where
       ∙ stepped P readings times code count (record { address = suc a; planned = false; state = switched P readings times (some w) s })
       (jump to) (place.fetch-at (place.at-tail h)) (lt-leb (length code) to (g .entry)) refl
 
-  -- none is taken: the run goes on behind the tests
+  -- where no switch is taken, the run goes on behind the switch tests
   pub tests-none : (k : ℕ) (ws : List Switch) (count a stub : ℕ) (s : State) → place.At code a (testsOf ws stub) → place.At code stub (stubsOf P k ws)
       → Every (Aimed P (length code) k) ws → taken P (s .ports) ws ≡ none
       → from P readings times code (length ws + count) a s ≡ from P readings times code count (a + length ws) s
@@ -94,7 +94,7 @@ module _ (P : Program) (readings times : List ℤ) (code : List Op) where
         → from P readings times code (before + count) a s
         ≡ from P readings times code count (entryAddress P (w .target) (enteredUnit k w)) (switched P readings times (some w) s)
 
-  -- a switch is taken: so do the tests and its stub
+  -- where a switch is taken, the tests and its stub lead to the entry of its target, its copies made
   pub tests-some : (k : ℕ) (ws : List Switch) (a stub : ℕ) (s : State) (w : Switch) → place.At code a (testsOf ws stub) → place.At code stub (stubsOf P k ws)
       → Every (Aimed P (length code) k) ws → taken P (s .ports) ws ≡ some w → Leads k (length ws + 2) a s w
   tests-some k [] a stub s w h g d e = let z : _≡_ {A = ℕ} 0 1 = cc in absurd (omega arith)
@@ -135,7 +135,7 @@ module _ (P : Program) (readings times : List ℤ) (code : List Op) where
                 ap (λ (c : ℕ). from P readings times code c a s) (suc-add (r .before) count) ∙ tested false q (r .before + count) ∙ r .leads count;
           }
 
--- where one is taken, there is one
+-- where a switch of a list is taken, the list has one
 pub taken-one : (P : Program) (v : List ℤ) (ws : List Switch) (w : Switch) → taken P v ws ≡ some w → 1 ≤ length ws
 taken-one P v [] w e = let z : _≡_ {A = ℕ} 0 1 = cc in absurd (omega arith)
 taken-one P v (u ∷ ws) w e = omega arith

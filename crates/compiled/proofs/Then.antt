@@ -1,5 +1,4 @@
 -- An outcome and what comes after it: where the same follows, where it is refused, and where it stands behind an instruction.
--- Assumes nothing.
 use Prim.Native.Nat.{ℕ}
 use mathlib.Core.Path.{_≡_, refl, sym}
 use mathlib.Core.Bool.{Bool, true, false}
@@ -9,7 +8,7 @@ use Rattle.machine.specs.Instant.{Outcome, ok, stop}
 use Rattle.machine.proofs.Outcomes.{stopped}
 use Rattle.compiled.specs.Block.{unless, andThen}
 
--- where the same follows every state, both come to the same
+-- an outcome comes to the same with two continuations that agree on every state
 pub then-same : (o : Outcome) (f g : State → Outcome) → ((s : State) → f s ≡ g s) → andThen o f ≡ andThen o g
 then-same (ok s) f g e = e s
 then-same (stop n) f g e = refl
@@ -28,7 +27,7 @@ unless-stops R true r o n f g h e = f refl (sym (stopped e))
 unless-stops R false true o n f g h e = g (sym (stopped e))
 unless-stops R false false o n f g h e = h e
 
--- they are refused where the outcome is, or where what follows it is
+-- an outcome and what follows it are refused where the outcome is, or where what follows it is
 pub then-stops : (R : Type 0) (o : Outcome) (f : State → Outcome) (n : ℕ) → (o ≡ stop n → R) → ((s : State) → o ≡ ok s → f s ≡ stop n → R)
     → andThen o f ≡ stop n → R
 then-stops R (ok s) f n g h e = h s refl e

@@ -14,21 +14,21 @@ use Rattle.code.specs.Op.{Op, call, schedule}
 use Rattle.code.proofs.At as place
 use Rattle.machine.specs.declared.State.{State}
 use Rattle.machine.specs.Instruction.{isFaulty, timeBad, stillRunning}
-use Rattle.machine.specs.Instant.{Outcome, fetch, run}
+use Rattle.machine.specs.Instant.{Outcome, fetch, runFrom}
 use Rattle.compiled.specs.Block.{Straight, calls, releases, opOf, unless, andThen, effect, through}
 use Rattle.compiled.proofs.Steps.{stepped}
 use Rattle.compiled.proofs.Then.{then-unless}
 
--- what it calls or releases is there: it is not faulty, however long the code, and after a `future` or before
+-- what a step calls or releases is there: it is not faulty, however long the code, and after a `future` or before
 abbrev pub Names : Program → Straight → Type 0
 Names P o = (n : ℕ) (planned : Bool) → isFaulty P n planned (opOf o) ≡ false
 
 module _ (P : Program) (readings times : List ℤ) (code : List Op) where
   -- what at most this many instructions come to from an address, before a `future`
   abbrev pub from : ℕ → ℕ → State → Outcome
-  from count a s = run P readings times code count (record { address = a; planned = false; state = s })
+  from count a s = runFrom P readings times code count (record { address = a; planned = false; state = s })
 
-  -- one of them
+  -- one step of straight-line code, from its address
   one : (o : Straight) (count a : ℕ) (s : State) → fetch P readings times code (record { address = a; planned = false; state = s }) ≡ opOf o → Names P o
       → from (suc count) a s
       ≡ unless (timeBad P times (opOf o)) (stillRunning s (opOf o)) (from count (suc a) (effect P readings times o s))
@@ -37,7 +37,7 @@ module _ (P : Program) (readings times : List ℤ) (code : List Op) where
   one (releases t) count a s e h =
       stepped P readings times code count (record { address = a; planned = false; state = s }) (schedule t) e (h (length code) false) refl
 
-  -- all of them
+  -- straight-line code, run from its address, comes to its steps one after the other
   pub straight-through : (os : List Straight) (count a : ℕ) (s : State) → place.At code a (map opOf os) → Every (Names P) os
       → from (length os + count) a s ≡ andThen (through P readings times os s) (λ u. from count (a + length os) u)
   straight-through [] count a s h n =

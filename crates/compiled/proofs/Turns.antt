@@ -31,16 +31,16 @@ module _ (T : Tables) (a : programVerdict T ≡ acceptedNumber) (readings times 
   abbrev P : Program
   P = programOf T
 
-  -- the run of the listing
+  -- the run of the listing, of at most so many instructions from an address
   abbrev runs : ℕ → ℕ → State → Outcome
   runs = from P readings times (listing P)
 
   module _ (m k : ℕ) (h : m < modeCount T) (l : k < mode P m .units) where
-    -- the parts of the block at their addresses
+    -- the parts of the block of mode m and unit k stand at their addresses
     parts : Placed P m k
     parts = placed P m k (omega (arith, mode-count T)) l
 
-    -- behind the head
+    -- a run from the switch tests of a block, with the switch that is taken, or none, comes to what `turned` says
     turn-run : (count : ℕ) (s : State) (w : Option Switch) → length (listing P) ≤ suc (headSize P (mode P m) k + count)
         → taken P (s .ports) (dueSwitches (mode P m) k) ≡ w
         → runs count (blockAddress P m k + headSize P (mode P m) k) s ≡ turned P readings times m k w s
@@ -77,7 +77,7 @@ module _ (T : Tables) (a : programVerdict T ≡ acceptedNumber) (readings times 
         ∙ r .leads (body + suc (suc rest))
         ∙ entry-run T a readings times (w .target) (enteredUnit k w) there (d .1) rest (switched P readings times (some w) s)
 
-    -- the whole block
+    -- a run from the address of a block comes to what `blockInstant` says
     pub block-run : (count : ℕ) (s : State) → length (listing P) ≤ suc count → runs count (blockAddress P m k) s ≡ blockInstant P readings times m k s
     unfolding blockInstant
     block-run count s b =

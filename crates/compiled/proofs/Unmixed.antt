@@ -11,7 +11,8 @@ use lib.Dec.{eqb}
 use borrow.Author.Tests.{eqb-false}
 use Rattle.theory.specs.Verdict.{acceptedNumber}
 use Rattle.theory.proofs.Members.{has-map}
-use Rattle.program.specs.Tables.{Tables, sensor, actuator, input, output, driverCount, guardKind, guardPort, guardLow, guardHigh, kindAlways, kindInterval, modeCount, invocationDriver, updateDriver}
+use Rattle.program.specs.Tables.{Tables, sensor, actuator, input, output, driverCount, guardKind, guardPort, guardLow, guardHigh}
+use Rattle.program.specs.Tables.{kindAlways, kindInterval, modeCount, invocationDriver, updateDriver}
 use Rattle.program.specs.Guard.{always, interval, guardOf}
 use Rattle.program.specs.Sets.{OfKind, ModePort, Source, Destination}
 use Rattle.program.specs.Program.{Driver, Invocation, Update, driverRow, programOf, driver, mode, dueInvocations, dueUpdates}
@@ -40,7 +41,7 @@ module _ (T : Tables) where
         go true e r = absurd r
         go false e r = (⊎-elim (λ a. absurd (eqb-false (guardKind T d) kindAlways e (a .kind))) (λ i. i .kind) (f .drivers d l), r)
 
-    -- what it reads is a source of it
+    -- what a declared driver reads is a source of it
     reads-row : (d p : ℕ) → d < driverCount T → Reads (driver (programOf T) d) p → Source T d p
     reads-row d p l r = go (subst (λ (D : Driver). Reads D p) (driver-row T d l) r)
       where
@@ -48,7 +49,7 @@ module _ (T : Tables) where
         go (inl g) = inr (guard-row d p l g)
         go (inr h) = let (c, b, e, q) = has-copies T (λ c. c .source ≡ p) d .0 h in inl (c, b, (e, q))
 
-  -- a port has one kind
+  -- a port has no two kinds
   one-kind : (j k p : ℕ) → OfKind T j p → OfKind T k p → j ≡ k
   one-kind j k p a b = omega (arith, a .1, b .1)
 
@@ -57,7 +58,7 @@ module _ (T : Tables) where
   mode-output o m p (k, l, (e, q)) = subst (OfKind T output) q (o .outputs k l)
 
   module _ (a : programVerdict T ≡ acceptedNumber) (m k : ℕ) (l : m < modeCount T) where
-    -- no driver of a due update writes what one reads
+    -- no driver of a due update writes what the driver of one reads
     pub updates-unmixed : Unmixed (map (λ (r : Update). driver (programOf T) (r .driver)) (dueUpdates (mode (programOf T) m) k))
     updates-unmixed p w r = let z : actuator ≡ output = one-kind actuator output p written read in omega (arith, z)
       where
@@ -76,7 +77,7 @@ module _ (T : Tables) where
             let (i, b, o, d, q) = has-updates T m k l (λ r. Reads (driver (programOf T) (r .driver)) p) .0 h in
             mode-output (accepted-mode-ports T a) _ p (accepted-updates T a .sources i p b (reads-row f (updateDriver T i) p (f .updates i b .driver) q))
 
-    -- nor does one of a due invocation
+    -- no driver of a due invocation writes what the driver of one reads
     pub invocations-unmixed : Unmixed (map (λ (r : Invocation). driver (programOf T) (r .driver)) (dueInvocations (mode (programOf T) m) k))
     invocations-unmixed p w r =
         ⊎-elim (λ o. let z : input ≡ output = one-kind input output p written o in omega (arith, z))

@@ -1,5 +1,5 @@
 -- The state that an instant leaves from the block of a mode and unit: the ports are those of Giotto's instant, where what the tasks give
--- is what their local outputs hold. Where the machine stands for it. Assumes nothing.
+-- is what their local outputs hold. Where the machine stands for it.
 use Prim.Native.Nat.{ℕ, _<_}
 use mathlib.Core.Path.{_≡_}
 use mathlib.Core.Bool.{true}
@@ -36,27 +36,30 @@ leaves P times m k s w v = record {
 abbrev pub seen : ℕ → ℕ → State → Configuration
 seen m k s = record { time = 0; mode = m; unit = k; ports = s .ports; active = λ t. true }
 
--- what a task gives stands in its local outputs
+-- what task t gives for port p, as it stands in its local outputs
 abbrev pub local : State → ℕ → ℕ → ℤ
 local s t p = valueOf (s .outputs) p
 
 module _ (P : Program) (readings : List ℤ) (m k : ℕ) (s : State) where
-  -- the switch that is taken, or none; the mode and the unit that are entered, and the tasks that are released
+  -- the switch that the instant takes, or none
   abbrev pub switchTaken : Option Switch
   switchTaken = switchOf P (seen m k s) (sensed P (local s) readings (seen m k s))
 
+  -- the mode that the instant enters
   abbrev pub modeEntered : ℕ
   modeEntered = modeAfter m switchTaken
 
+  -- the unit that the instant enters
   abbrev pub unitEntered : ℕ
   unitEntered = unitAfter k switchTaken
 
+  -- the tasks that the instant releases
   abbrev pub tasksReleased : List ℕ
   tasksReleased = dueTasks (mode P modeEntered) unitEntered
 
   -- the state after the instant: the ports are those that Giotto's instant leaves
-  unfoldable pub done : List ℤ → State
-  done times = leaves P times m k s switchTaken (instant P (local s) readings (seen m k s) .ports)
+  unfoldable pub afterInstant : List ℤ → State
+  afterInstant times = leaves P times m k s switchTaken (instant P (local s) readings (seen m k s) .ports)
 
 -- the machine is about to run the block of unit k of mode m: it stands there, or at address 0 for unit 0 of the start mode
 pub record AtBlock (T : Tables) (m k : ℕ) (s : State) : Type 0 where

@@ -24,16 +24,17 @@ use Rattle.compiler.specs.Rounds.{unitOf, nextIn, aimIn, blockIn, blockS
 use Rattle.compiler.specs.declared.rounds.Round.{Round}
 use Rattle.writing.proofs.Parts.{sized, parts-count}
 
--- the block after the last unit's is the first, after any other the one that follows
+-- the block after the last unit's is the first of the round
 pub next-last : (round : Round) (k end : ℕ) → k + 1 ≡ round .units → round .first ≡ nextIn round k end
 next-last round k end e =
     ap (λ (t : Bool). elim t as (λ t. ℕ) [ true ↦ round .first | false ↦ end ]) (sym (eq-eqb (suc k) (round .units) (sym (add-one k) ∙ e)))
 
+-- the block after any other unit's is the one that follows it
 pub next-other : (round : Round) (k end : ℕ) → (k + 1 ≡ round .units → ⊥) → end ≡ nextIn round k end
 next-other round k end d =
     ap (λ (t : Bool). elim t as (λ t. ℕ) [ true ↦ round .first | false ↦ end ]) (sym (ne-eqb (suc k) (round .units) (λ e. d (add-one k ∙ e))))
 
--- it begins at one of two addresses
+-- the next block is within a bound that the first block and the end of this one keep
 next-most : (round : Round) (k end b : ℕ) → round .first ≤ b → end ≤ b → nextIn round k end ≤ b
 next-most round k end b l h = go (eqb (suc k) (round .units))
   where
@@ -56,11 +57,11 @@ module _ (T : Tables) (round : Round) where
   pub block-length : (entries : List ℕ) (k at : ℕ) → length (blockIn T entries round k at) ≡ sizeOf (countsAt T (unitOf round k))
   block-length entries k at = parts-count T (unitOf round k) entries (aimIn round k at (countsAt T (unitOf round k)))
 
-  -- no block begins later than the most before it
+  -- no block of a round begins later than the longest blocks before it would end
   start-most : shapeBad T ≡ false → (k : ℕ) → blockStart T round k ≤ round .first + k * mostBlock
   start-most e k =
       omega (arith, sum-most (λ j. sizeOf (countsAt T (unitOf round j))) mostBlock k (λ j l. block-most _ (sized T (unitOf round j) e)))
 
-  -- so each block of a round ends before the mode's most
+  -- each block of a round ends within the longest mode
   pub start-before : shapeBad T ≡ false → (k : ℕ) → k < suc maxUnits → blockStart T round k + mostBlock ≤ round .first + mostMode
   start-before e k l = omega (arith, start-most e k, mul-le-mul-right {m = suc k} {n = suc maxUnits} mostBlock l)

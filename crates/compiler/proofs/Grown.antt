@@ -1,5 +1,4 @@
 -- A loop that writes piece after piece: what was written is the pieces so far. Where each piece begins, and how far it can reach.
--- Assumes nothing.
 use Prim.Native.Nat.{ℕ, _+_, _≤_, _<_}
 use mathlib.Core.Path.{_≡_, refl, sym, ap, _∙_}
 use mathlib.Core.List.{List}
@@ -11,18 +10,18 @@ use Rattle.theory.proofs.Lists.{cat-length}
 use Rattle.writing.specs.Written.{Words, Written, writes}
 use Rattle.writing.proofs.Written.{writes-then, writes-length, written-at}
 
--- after i of n pieces the loop is at `here`
+-- after i of n pieces the loop is at `here`: it has written the first i pieces
 pub record Grown (piece : ℕ → List Words) (n i : ℕ) (start here : Written) : Type 0 where
   pub in-range : i ≤ n
   pub same : here ≡ writes (cat piece i) start
 
 module _ {piece : ℕ → List Words} {n : ℕ} {start : Written} where
-  -- the loop begins
+  -- before the first piece nothing is written
   pub grown-none : Grown piece n 0 start start
   grown-none = record { in-range = omega arith; same = refl }
 
   module _ {i : ℕ} {here : Written} (h : Grown piece n i start here) where
-    -- one piece more
+    -- the loop writes one piece more
     pub grown-more : {there : Written} → i < n → there ≡ writes (piece i) here → Grown piece n (i + 1) start there
     grown-more l e =
         record {
@@ -30,11 +29,11 @@ module _ {piece : ℕ → List Words} {n : ℕ} {start : Written} where
           same = writes-then start (cat piece i) (piece i) (h .same) e ∙ ap (λ (k : ℕ). writes (cat piece k) start) (sym (add-one i));
         }
 
-    -- the loop ends
+    -- behind the last piece all pieces are written
     pub grown-all : n ≤ i → here ≡ writes (cat piece n) start
     grown-all l = let e : i ≡ n = omega (arith, h .in-range) in h .same ∙ ap (λ (k : ℕ). writes (cat piece k) start) e
 
-    -- the slice is as long as it was
+    -- the slice keeps its length as the loop goes on
     pub grown-length : length (here .code) ≡ length (start .code)
     grown-length = ap (λ (w : Written). length (w .code)) (h .same) ∙ writes-length (cat piece i) start
 

@@ -17,7 +17,8 @@ use Rattle.program.specs.Program.{Program, Mode, Switch, programOf, mode, ticks
 use Rattle.program.proofs.Decoded.{mode-count, mode-row, sensors-rows}
 use Rattle.rules.specs.Verdict.{programVerdict}
 use Rattle.code.specs.Op.{Op, jump, future, return}
-use Rattle.code.specs.Listing.{blockSize, modeAddress, blockAddress, entryAddress, futureAddress, headOf, testsOf, bodyOf, endOf, stubsOf, blockCode, modeCode, listing}
+use Rattle.code.specs.Listing.{blockSize, modeAddress, blockAddress, entryAddress, futureAddress, headOf, testsOf, bodyOf, endOf, stubsOf}
+use Rattle.code.specs.Listing.{blockCode, modeCode, listing}
 use Rattle.code.specs.Compile.{listingOf}
 use Rattle.code.proofs.Accepted.{accepted-aims}
 use Rattle.layout.specs.Counts.{countsOf, beforeFuture, sizeOf}
@@ -30,7 +31,7 @@ use Rattle.compiler.specs.Rounds.{nextIn, blockIn, blockStart}
 use Rattle.compiler.specs.Modes.{roundOf, modeIn, modeStart, allIn}
 use Rattle.compiler.proofs.Pieces.{when, head-same, body-same, switches-same, stubs-same}
 
--- the images of pieces are the pieces of the images
+-- the image of pieces put together is the images of the pieces put together
 map-cat : {A B : Type 0} (f : A → B) (g : ℕ → List A) (n : ℕ) → map f (cat g n) ≡ cat (λ k. map f (g k)) n
 map-cat f g zero = refl
 map-cat f g (suc n) = map-append f (cat g n) (g n) ∙ ap (λ l. l ++ map f (g n)) (map-cat f g n)
@@ -50,10 +51,11 @@ module _ (T : Tables) where
   abbrev P : Program
   P = programOf T
 
-  -- how many sensors the tables declare: those of the program
+  -- how many sensors the tables declare
   abbrev read : ℕ
   read = length (sensorRows (T .ports) (λ p. p))
 
+  -- the sensors that the tables declare are those of the program
   read-all : read ≡ length (P .sensors)
   read-all = ap length (sym (sensors-rows T))
 
@@ -63,16 +65,16 @@ module _ (T : Tables) where
     counted k = counts-mode T read read-all m k l
 
     module _ (first : ℕ) (e : first ≡ modeAddress P m) (k : ℕ) where
-      -- and a block stands where it does in the listing
+      -- a block of a declared mode stands where it does in the listing
       block-start : blockStart T (roundOf T m first) k ≡ blockAddress P m k
       block-start = ap₂ (λ a b. a + b) e (sum-same _ (blockSize P (mode P m)) k (λ j b. ap sizeOf (counted j)))
 
       module _ (at : ℕ) (b : at ≡ blockAddress P m k) where
-        -- its stubs stand behind its `future` and `return`
+        -- the stubs of a block stand behind its `future` and `return`
         stub-same : at + beforeFuture (countsAt T (when T m k)) + 2 ≡ 2 + futureAddress P m k
         stub-same = omega (arith, b, ap beforeFuture (counted k), future-counted P m k)
 
-        -- the next block is that of the next unit
+        -- the block that a block goes on with is that of the next unit
         next-same : nextIn (roundOf T m first) k (at + sizeOf (countsAt T (when T m k))) ≡ blockAddress P m (nextUnit (mode P m) k)
         next-same = go (eqb (suc k) (units T m)) ∙ ap (λ (M : Mode). blockAddress P m (nextUnit M k)) (sym (mode-row T m l))
           where
@@ -94,7 +96,7 @@ module _ (T : Tables) where
       due-same : (k : ℕ) → switchesIn (T .switches) (when T m k) ≡ dueSwitches (mode P m) k
       due-same k = switches-same T m k ∙ ap (λ (M : Mode). dueSwitches M k) (sym (mode-row T m l))
 
-      -- a block is that of the listing
+      -- a block of a declared mode that is written is that of the listing
       block-same : (k at : ℕ) → at ≡ blockAddress P m k → blockIn T entries (roundOf T m first) k at ≡ map three (blockCode P m k)
       block-same k at b =
           five (headOf P (mode P m) k) (testsOf (dueSwitches (mode P m) k) (2 + futureAddress P m k)) (bodyOf (mode P m) k) (endOf P m k) (stubsOf P k (dueSwitches (mode P m) k))
@@ -104,18 +106,18 @@ module _ (T : Tables) where
           (ap₂ (λ (t n : ℕ). map three (future t n ∷ return ∷ [])) (ap ticksOf (sym (mode-row T m l))) (next-same m l first e k at b))
           (ap (map three) (ap (stubsIn entries) (due-same k) ∙ stubs-same P entries (modeCount T) k entered (dueSwitches (mode P m) k) (declared m k l)))
 
-      -- a mode is that of the listing
+      -- a declared mode that is written is that of the listing
       mode-same : modeIn T entries m first ≡ map three (modeCode P m)
       mode-same =
           cat-same _ (λ k. map three (blockCode P m k)) (units T m) (λ k h. block-same k _ (block-start m l first e k))
           ∙ ap (λ (M : Mode). cat (λ k. map three (blockCode P m k)) (M .units)) (sym (mode-row T m l))
           ∙ sym (map-cat three (blockCode P m) (mode P m .units))
 
-    -- a mode stands where it does in the listing
+    -- a declared mode stands where it does in the listing
     start-same : (m : ℕ) → m < modeCount T → modeStart T m ≡ modeAddress P m
     start-same m l = start-mode T read read-all m (omega arith)
 
-    -- all is the listing
+    -- what is written from the tables of an accepted program is its listing
     pub all-same : (first : ℕ) → first ≡ blockAddress P (startMode T) 0 → allIn T entries first ≡ map three (listingOf T)
     unfolding listingOf listing
     all-same first e =

@@ -1,7 +1,6 @@
 -- The modes of a program, as they are written: the blocks of one are those of its round, and as long as the layout counts.
--- Assumes nothing.
 use Prim.Native.Nat.{ℕ, _/_}
-use mathlib.Core.Path.{_≡_, ap, _∙_}
+use mathlib.Core.Path.{_≡_}
 use mathlib.Core.List.{List}
 use lib.ListN.{length}
 use Rattle.theory.proofs.Lists.{cat-length}
@@ -16,12 +15,10 @@ use Rattle.compiler.specs.Rounds.{unitOf, blockIn, blockStart, roundIn}
 use Rattle.compiler.specs.Modes.{roundOf, modeIn}
 use Rattle.compiler.proofs.Aims.{block-length}
 
--- the blocks of this round are those of mode m
-pub mode-told : (T : Tables) (entries : List ℕ) (own : Mode) {u period m : ℕ} (at : ℕ) → own .0 ≡ m → u ≡ units T (own .0) → period ≡ modePeriod T m
-    → roundIn T entries (record { mode = own; units = u; ticks = period / u; first = at }) ≡ modeIn T entries m at
-mode-told T entries own {u} {period} {m} at q r p =
-    let many : u ≡ units T m = r ∙ ap (units T) q in
-    λ j. roundIn T entries (record { mode = record { 0 = q j }; units = many j; ticks = p j / many j; first = at })
+-- the blocks of a round with the units and the ticks of a mode are the blocks of that mode
+pub mode-told : (T : Tables) (entries : List ℕ) (m : Mode) {u period : ℕ} (at : ℕ) → u ≡ units T (m .0) → period ≡ modePeriod T (m .0)
+    → roundIn T entries (record { mode = m; units = u; ticks = period / u; first = at }) ≡ modeIn T entries (m .0) at
+mode-told T entries m at q p = λ j. roundIn T entries (record { mode = m; units = q j; ticks = p j / q j; first = at })
 
 -- a mode is as long as its size says
 pub mode-length : (T : Tables) (entries : List ℕ) (m at : ℕ) → length (modeIn T entries m at) ≡ sizeIn T (length (sensorRows (T .ports) (λ p. p))) m

@@ -1,5 +1,4 @@
 -- What compiling answers, by the number that the verdict on the tables gives: a refusal of that number, or what number 11 leaves.
--- Assumes nothing.
 use Prim.Native.Nat.{ℕ, zero, suc, _*_, _≤_}
 use mathlib.Core.Path.{_≡_, refl, sym, ap, ap₂, _∙_}
 use mathlib.Core.Bool.{Bool, true, false, _||_}
@@ -29,10 +28,11 @@ use Rattle.writing.proofs.Written.{writes-emit}
 use Rattle.compiler.proofs.Listed.{all-same}
 
 module _ (L : Compiling) where
-  -- what number 11 leaves
+  -- where number 11 applies, the outcome is its refusal
   pub listed-refused : (codeLong (L .tables) || sliceShort L) ≡ true → refused L codeRefused ≡ listed L
   listed-refused e = ap (λ (b : Bool). elim b as (λ b. Outcome) [ true ↦ refused L codeRefused | false ↦ accepted L ]) (sym e)
 
+  -- where number 11 does not apply, the outcome is the listing
   pub listed-accepted : (codeLong (L .tables) || sliceShort L) ≡ false → accepted L ≡ listed L
   listed-accepted e = ap (λ (b : Bool). elim b as (λ b. Outcome) [ true ↦ refused L codeRefused | false ↦ accepted L ]) (sym e)
 
@@ -42,25 +42,25 @@ module _ (L : Compiling) where
   unfolding codeLong sliceShort
   long-told n e = ap (λ (k : ℕ). ltb maxCode k || ltb (length (L .slice)) (wordsEach * k)) e
 
-  -- the verdict of compiling: that on the program, then 11
+  -- the verdict of compiling is that on the program, then number 11
   verdict-first : compileVerdict L ≡ after (programVerdict (L .tables)) (verdict sliceRefusals L)
   unfolding compileVerdict programVerdict
   verdict-first =
       verdict-append (map (within (λ (L : Compiling). L .tables)) (shapeRefusal ∷ tableRefusals)) sliceRefusals L (omega arith)
       ∙ ap (λ (n : ℕ). after n (verdict sliceRefusals L)) (verdict-within (λ (L : Compiling). L .tables) (shapeRefusal ∷ tableRefusals) L)
 
-  -- the outcome of a number
+  -- the outcome of compiling with this number
   abbrev by : ℕ → Outcome
   by v =
       outcome (elim v as (λ v. Compiled) [ zero ↦ accepted L .answer | suc n ↦ refused L (suc n) .answer ])
       (elim v as (λ v. List ℕ) [ zero ↦ accepted L .slice | suc n ↦ L .slice ])
 
-  -- a number up to 10
+  -- where a number up to 10 applies, the outcome is its refusal
   pub compiled-refused : (n : ℕ) → programVerdict (L .tables) ≡ n → (n ≡ acceptedNumber → ⊥) → refused L n ≡ compiled L
   compiled-refused zero e d = absurd (d refl)
   compiled-refused (suc n) e d = ap by (sym (verdict-first ∙ ap (λ (k : ℕ). after k (verdict sliceRefusals L)) e))
 
-  -- none up to 10
+  -- where no number up to 10 applies, the outcome is what number 11 leaves
   pub compiled-listed : programVerdict (L .tables) ≡ acceptedNumber → listed L ≡ compiled L
   compiled-listed e =
       go (codeLong (L .tables) || sliceShort L) ∙ ap by (sym (verdict-first ∙ ap (λ (k : ℕ). after k (verdict sliceRefusals L)) e))
@@ -70,7 +70,7 @@ module _ (L : Compiling) where
       go true = refl
       go false = refl
 
--- what was written is the listing: so the outcome is that of a program that number 11 passes
+-- where what was written is the listing, the outcome is that of a program that number 11 passes
 pub all-written : (T : Tables) (a : programVerdict T ≡ acceptedNumber) (layout : Layout) → LaidOut T layout → {start : ℕ} → start ≡ startMode T → (slice exit : List ℕ) (next : ℕ)
     → written exit next ≡ writes (allIn T (layout .entries) (getD (layout .starts) start 0)) (written slice 0)
     → (ltb maxCode (layout .length) || ltb (length slice) (wordsEach * layout .length)) ≡ false

@@ -1,5 +1,4 @@
 -- What compiling answers, together with the slice as it is left: for every program, and for one that numbers 1 to 10 pass.
--- Assumes nothing.
 use Prim.Native.Nat.{ℕ, _*_}
 use mathlib.Core.Bool.{true, false, _||_}
 use mathlib.Core.List.{List, _++_}
@@ -12,7 +11,7 @@ use Rattle.code.specs.Op.{emit}
 use Rattle.code.specs.Compile.{Compiling, listingOf, codeLong, sliceShort, compileAnswer, compileSlice}
 use Rattle.code.specs.declared.Compiled.{Compiled}
 
--- what is lent: these tables, and this slice
+-- compiling that is lent these tables and this slice
 abbrev pub compiling : Tables → List ℕ → Compiling
 compiling T slice = record { tables = T; slice = slice }
 
@@ -21,22 +20,24 @@ pub record Outcome : Type 0 where
   pub answer : Compiled
   pub slice : List ℕ
 
+-- an outcome from its answer and its slice
 abbrev pub outcome : Compiled → List ℕ → Outcome
 outcome answer slice = record { answer = answer; slice = slice }
 
+-- the outcome of compiling
 abbrev pub compiled : Compiling → Outcome
 compiled L = outcome (compileAnswer L) (compileSlice L)
 
--- a refusal has no length, and leaves the slice as it was
+-- the outcome of a refusal: no length, and the slice as it was
 abbrev pub refused : Compiling → ℕ → Outcome
 refused L n = outcome (record { number = n; length = 0 }) (L .slice)
 
--- the listing is written; the rest of the slice stays as it was
+-- the outcome of an accepted program: its listing is written, the rest of the slice stays as it was
 abbrev pub accepted : Compiling → Outcome
 accepted L =
     outcome (record { number = acceptedNumber; length = length (listingOf (L .tables)) })
     (emit (listingOf (L .tables)) ++ drop (wordsEach * length (listingOf (L .tables))) (L .slice))
 
--- number 11, or the listing
+-- the outcome of a program that numbers 1 to 10 pass: number 11, or the listing
 abbrev pub listed : Compiling → Outcome
 listed L = elim (codeLong (L .tables) || sliceShort L) [ true ↦ refused L codeRefused | false ↦ accepted L ]

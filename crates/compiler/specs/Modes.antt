@@ -1,5 +1,4 @@
 -- The blocks of all modes, as they are written from the lent tables; where each mode stands is counted.
--- Assumes nothing.
 use Prim.Native.Nat.{ℕ, _/_}
 use mathlib.Core.List.{List, _∷_}
 use lib.ListN.{length}
@@ -17,7 +16,7 @@ use Rattle.compiler.specs.declared.rounds.Round.{Round}
 abbrev pub roundOf : Tables → ℕ → ℕ → Round
 roundOf T m first = record { mode = record { 0 = m }; units = units T m; ticks = modePeriod T m / units T m; first = first }
 
--- its blocks
+-- the blocks of mode m, of which the first stands at an address
 abbrev pub modeIn : Tables → List ℕ → ℕ → ℕ → List Words
 modeIn T entries m first = roundIn T entries (roundOf T m first)
 
@@ -25,10 +24,10 @@ modeIn T entries m first = roundIn T entries (roundOf T m first)
 abbrev pub modeStart : Tables → ℕ → ℕ
 modeStart T m = startIn T (length (sensorRows (T .ports) (λ p. p))) m
 
--- the first n modes
+-- the blocks of the first n modes, one mode after the other
 abbrev pub modesIn : Tables → List ℕ → ℕ → List Words
 modesIn T entries n = cat (λ m. modeIn T entries m (modeStart T m)) n
 
--- a jump to this address, then all modes
+-- the whole listing: a jump to this address, then all modes
 abbrev pub allIn : Tables → List ℕ → ℕ → List Words
 allIn T entries first = three (jump first) ∷ modesIn T entries (modeCount T)

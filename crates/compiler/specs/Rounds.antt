@@ -1,4 +1,4 @@
--- The blocks of a mode, as they are written from the lent tables; where each stands is counted. Assumes nothing.
+-- The blocks of a mode, as they are written from the lent tables; where each stands is counted.
 use Prim.Native.Nat.{ℕ, suc, _+_}
 use mathlib.Core.Bool.{true, false}
 use mathlib.Core.List.{List}
@@ -21,7 +21,7 @@ unitOf round k = record { mode = round .mode; units = round .units; unit = k }
 abbrev pub nextIn : Round → ℕ → ℕ → ℕ
 nextIn round k end = elim (eqb (suc k) (round .units)) [ true ↦ round .first | false ↦ end ]
 
--- what a block at an address with so many of each has in it: its stubs stand behind its `future` and `return`
+-- the numbers in the block of unit k at an address: its stubs stand behind its `future` and `return`
 abbrev pub aimIn : Round → ℕ → ℕ → Counts → Aim
 aimIn round k at due =
     record { stub = at + beforeFuture due + 2; ticks = round .ticks; next = nextIn round k (at + sizeOf due) }
@@ -30,9 +30,10 @@ aimIn round k at due =
 abbrev pub blockIn : Tables → List ℕ → Round → ℕ → ℕ → List Words
 blockIn T entries round k at = partsIn T entries (unitOf round k) (aimIn round k at (countsAt T (unitOf round k)))
 
--- where it stands, and the blocks of the round, one after the other
+-- where the block of unit k of a round stands
 abbrev pub blockStart : Tables → Round → ℕ → ℕ
 blockStart T round k = round .first + sum (λ j. sizeOf (countsAt T (unitOf round j))) k
 
+-- the blocks of a round, one after the other
 abbrev pub roundIn : Tables → List ℕ → Round → List Words
 roundIn T entries round = cat (λ k. blockIn T entries round k (blockStart T round k)) (round .units)

@@ -16,7 +16,7 @@ use code::Compiled;
 use layout::addresses;
 use layout::counts;
 
-// The listing is written only where it is within the limit and the slice has room for all of its words.
+// A program that numbers 1 to 10 pass is compiled; its listing is written only where it is within the limit and the slice.
 pub fn listed(tables: &[&[i32]; Program::TABLES], first: Mode, code: &mut [u32]) -> Compiled
     requires { ⌜ InShape (now tables) ⌝ }
     requires { ⌜ Periods (tableAt (now tables) modesAt) ⌝ }

@@ -13,7 +13,7 @@ mod accepted;
 mod listing;
 mod rounds;
 
-// Any slices at all may be lent. A refusal leaves the slice as it was; a listing leaves the rest of it as it was.
+// A program is compiled into a lent slice; any slices at all may be lent. A refusal leaves the slice, a listing the rest of it, as it was.
 pub fn compile(tables: &[&[i32]; Program::TABLES], program: Program, code: &mut [u32]) -> Compiled
     ensures answer { λ r. ⌜ r ≡ compileAnswer (compiling (tablesIn (now (tables .entry)) (program .start)) (now (code .entry))) ⌝ }
     ensures slice { λ r. ⌜ now (code .exit) ≡ compileSlice (compiling (tablesIn (now (tables .entry)) (program .start))

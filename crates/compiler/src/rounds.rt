@@ -30,7 +30,7 @@ pub struct Round {
     pub first: usize,
 }
 
-// The block after that of a unit, which ends at `end`: around the round it is the first.
+// Where the block of the next unit stands: behind this one, which ends at `end`, or after the last unit where the first stands.
 fn next_block(round: Round, unit: usize, end: usize) -> usize
     requires { ⌜ unit < round .units ⌝ }
     ensures { λ r. ⌜ r ≡ nextIn round unit end ⌝ }
@@ -56,7 +56,7 @@ fn aims(round: Round, unit: usize, at: usize, due: Counts) -> Aim
     }
 }
 
-// The block of a unit.
+// The block of a unit of a round is written at an address. The address behind it is returned.
 fn block(
     code: &mut [u32],
     at: usize,
@@ -98,7 +98,7 @@ fn block(
     blocks::parts(code, at, tables, entries, when, aim)
 }
 
-// The blocks of all units.
+// The blocks of all units of a round are written, one after the other. The address behind them is returned.
 pub fn all_blocks(
     code: &mut [u32],
     tables: &[&[i32]; Program::TABLES],

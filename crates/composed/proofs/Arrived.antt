@@ -19,7 +19,8 @@ use Rattle.program.specs.Ports.{valueOf}
 use Rattle.rules.specs.Verdict.{programVerdict}
 use Rattle.rules.proofs.Accepted.{due-declared}
 use Rattle.runs.specs.Tick.{leftOf}
-use Rattle.giotto.specs.Instant.{Configuration, Function, results, completed, sensed, switchOf, modeAfter, unitAfter, afterSwitch, afterDrivers}
+use Rattle.giotto.specs.Instant.{Configuration, Function, results, completed, sensed, switchOf, modeAfter, unitAfter, afterSwitch}
+use Rattle.giotto.specs.Instant.{afterDrivers}
 use Rattle.giotto.proofs.Due.{due-of-mode, switch-all}
 use Rattle.giotto.proofs.Stays.{inputs-stay}
 use Rattle.machine.specs.declared.State.{State}
@@ -27,7 +28,7 @@ use Rattle.compiled.proofs.Named.{entered-declared}
 use Rattle.composed.specs.Related.{tasksOf}
 use Rattle.composed.proofs.Edge.{Below, Edge}
 
--- x: active before; d: due; z: of the mode entered. Without a switch the mode's tasks are active again
+-- without a switch the mode's tasks are active again (x: active before; d: due; z: of the mode that is entered)
 active-stay : (x d z : Bool) → (d ≡ true → z ≡ true) → (x ≡ true → z ≡ true) → (z ≡ true → d ≡ false → x ≡ true)
     → ((x && not (x && d)) || d) ≡ z
 active-stay true true z f g h = sym (f refl)
@@ -36,7 +37,7 @@ active-stay true false z f g h = sym (g refl)
 active-stay false false true f g h = h refl refl
 active-stay false false false f g h = refl
 
--- with a switch every active task is due, so only the target's are
+-- with a switch every active task is due, so only the target's are active (x: active before; d: due; z: of the target)
 active-go : (x d z : Bool) → (x ≡ true → d ≡ true) → ((x && not (x && d)) || z) ≡ z
 active-go true true z f = refl
 active-go true false z f = clash {b = false} (f refl) refl
@@ -46,7 +47,7 @@ module _ (T : Tables) (W S : List ℤ) (F : Function) where
   abbrev P : Program
   P = programOf T
 
-  -- of mode m and unit k, with the port values v after the instant
+  -- an instant enters mode m and unit k, and leaves the port values v
   pub record Arrived (C : Configuration) (s : State) (m k : ℕ) (v : List ℤ) : Type 0 where
     pub declared : m < modeCount T
     pub in-round : k < mode P m .units
@@ -59,23 +60,24 @@ module _ (T : Tables) (W S : List ℤ) (F : Function) where
 
   module _ (a : programVerdict T ≡ acceptedNumber) (n : ℕ) (C : Configuration) (s : State) (g : Edge T W S F n C s)
       (readings : List ℤ) where
-    -- the values after step 3
+    -- the port values after step 3 of the instant
     abbrev read : List ℤ
     read = sensed P (results P F (C .ports)) readings C
 
-    -- who is due
+    -- the tasks that are due at the instant
     abbrev due : List ℕ
     due = dueTasks (mode P (C .mode)) (C .unit)
 
+    -- all ports are there before the instant
     all : length (C .ports) ≡ maxPorts
     all = ap length (sym (g .ports)) ∙ g .all-ports
 
-    -- who is active afterwards, where the completed tasks are the active due ones
+    -- the active tasks afterwards, where the completed tasks are the active due ones
     with-completed : (t : ℕ) (z b : Bool) → ((C .active t && not (C .active t && member t due)) || z) ≡ b
         → ((C .active t && not (member t (completed P C))) || z) ≡ b
     with-completed t z b e = ap (λ (c : Bool). (C .active t && not c) || z) (member-keep (C .active) t due) ∙ e
 
-    -- no switch is taken
+    -- an instant in which no switch is taken enters the mode and unit that it is in
     stays : Arrived C s (C .mode) (C .unit) (afterDrivers P (mode P (C .mode)) (C .unit) read)
     stays =
         record {
@@ -98,7 +100,7 @@ module _ (T : Tables) (W S : List ℤ) (F : Function) where
       all-due : (t : ℕ) → member t (tasksOf P (C .mode)) ≡ true → member t due ≡ true
       all-due t = switch-all T a (C .mode) (C .unit) t read w (g .at .declared) e
 
-      -- so every task has ended
+      -- where a switch is taken every task has ended
       quiet : (t : ℕ) → leftOf (s .left) t ≡ 0
       quiet t = go (member t (tasksOf P (C .mode))) refl
         where
@@ -122,7 +124,7 @@ module _ (T : Tables) (W S : List ℤ) (F : Function) where
             below = λ j l t o. omega (arith, quiet t);
           }
 
-    -- the mode and the unit entered
+    -- an instant enters its mode and unit, whether a switch is taken or none
     pub arrive : (w : Option Switch) → switchOf P C read ≡ w
         → Arrived C s (modeAfter (C .mode) w) (unitAfter (C .unit) w)
         (afterDrivers P (mode P (modeAfter (C .mode) w)) (unitAfter (C .unit) w) (afterSwitch P w read))

@@ -1,5 +1,5 @@
 -- The outputs of due tasks at an instant: copying local outputs is writing what the tasks give, where they hold it, and changes nothing
--- where they are the ports' own values. Assumes nothing else.
+-- where they are the ports' own values. Nothing else is assumed.
 use Prim.Native.Nat.{ℕ}
 use mathlib.Core.Path.{_≡_, refl, ap}
 use mathlib.Core.Bool.{true}
@@ -13,7 +13,7 @@ use Rattle.program.specs.Program.{Program, task}
 use Rattle.program.specs.Ports.{valueOf, takes}
 
 module _ (P : Program) (ts : List ℕ) (v : List ℤ) where
-  -- outputs that take their own values
+  -- outputs that take the values which they have change nothing
   pub copied-same : puts (gather (λ t. takes (valueOf v) (task P t .outputs)) ts) v ≡ v
   copied-same =
       puts-own (pos 0) (gather (λ t. takes (valueOf v) (task P t .outputs)) ts) v
@@ -24,7 +24,7 @@ module _ (P : Program) (ts : List ℕ) (v : List ℤ) where
           every-image (λ (a : Put). a .value ≡ valueOf v (a .place)) (λ p. record { place = p; value = valueOf v p }) (task P t .outputs)
           (every-all (λ p. valueOf v p ≡ valueOf v p) (task P t .outputs) (λ p. refl))
 
-  -- outputs that take what their tasks give
+  -- outputs that take what they hold locally take what their tasks give, where they hold it
   pub copied-held : (value : ℕ → ℤ) (result : ℕ → ℕ → ℤ)
       → ((t p : ℕ) → member t ts ≡ true → member p (task P t .outputs) ≡ true → value p ≡ result t p)
       → puts (gather (λ t. takes value (task P t .outputs)) ts) v ≡ puts (gather (λ t. takes (result t) (task P t .outputs)) ts) v

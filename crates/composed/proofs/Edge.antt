@@ -56,7 +56,7 @@ module _ (T : Tables) (W S : List ℤ) (F : Function) where
     -- copying the local outputs of all due tasks is step 1
     pub copied : afterTasks P (local s) (seen (C .mode) (C .unit) s)
         ≡ afterTasks P (results P F (C .ports)) C
-    -- due tasks have ended, tasks of other modes too
+    -- due tasks have ended, and so have the tasks of other modes
     pub ended : (t : ℕ) → member t (dueTasks (mode P (C .mode)) (C .unit)) ≡ true → leftOf (s .left) t ≡ 0
     pub others : (t : ℕ) → member t (tasksOf P (C .mode)) ≡ false → leftOf (s .left) t ≡ 0
     -- active tasks are the mode's; those of the mode that are not due are active, and hold their results where they have ended
@@ -69,7 +69,7 @@ module _ (T : Tables) (W S : List ℤ) (F : Function) where
     pub below : (j : ℕ) → j < suppliers → Below j (C .mode) (C .unit) (s .left)
 
   module _ (h : Sound T W S) where
-    -- nothing has happened yet
+    -- before anything has happened an instant is about to begin
     first-edge : Edge 0 (initial P F) (stateOf (P .first))
     first-edge =
         record {
@@ -106,12 +106,13 @@ module _ (T : Tables) (W S : List ℤ) (F : Function) where
         subst (λ (k : ℕ). Edge k C s) (sym (f .no-tick))
         (subst (λ (D : Configuration). Edge 0 D s) (sym (f .initially)) (subst (Edge 0 (initial P F)) (sym (f .is-fresh)) first-edge))
 
-    -- a unit has ended
+    -- an instant is about to begin where a unit has ended
     module _ (k n : ℕ) (C : Configuration) (s : State) (g : Going T W S F k n C s) (z : s .remaining ≡ 0) where
+      -- where a unit has ended, its ticks have elapsed
       over : s .elapsed ≡ ticksOf (mode P (C .mode))
       over = omega (arith, g .ticks, z)
 
-      -- a task that is due has ended
+      -- where a unit has ended, a task that is due has ended
       due-ended : (t : ℕ) → member t (dueTasks (mode P (C .mode)) (C .unit)) ≡ true → leftOf (s .left) t ≡ 0
       due-ended t e =
           let j = task P t .supplier in
@@ -122,7 +123,7 @@ module _ (T : Tables) (W S : List ℤ) (F : Function) where
           subst (λ (e : ℕ). leftOf (s .left) t ≤ leftOf (worstRun T W S F j (C .mode) k e .left) t) over (g .ahead j l .owes t refl) in
           omega (arith, less, end)
 
-      -- at the end of a round all have
+      -- where a round has ended, all tasks have ended
       all-ended : C .unit ≡ 0 → (t : ℕ) → leftOf (s .left) t ≡ 0
       all-ended u t = go (member t (tasksOf P (C .mode))) refl
         where
@@ -130,7 +131,7 @@ module _ (T : Tables) (W S : List ℤ) (F : Function) where
           go true e = due-ended t (subst (λ (k : ℕ). member t (dueTasks (mode P (C .mode)) k) ≡ true) (sym u) e)
           go false e = g .others t e
 
-      -- each supplier owes at most what its worst-case run alone owes before the next unit
+      -- where a unit has ended, each supplier owes at most what its worst-case run alone owes before the next
       next-below-worst : (j : ℕ) → j < suppliers → Below j (C .mode) (C .unit) (s .left)
       next-below-worst j l = go (eqb (suc k) (mode P (C .mode) .units)) (g .next)
         where

@@ -44,6 +44,7 @@ module _ (T : Tables) (W S : List ℤ) (F : Function) (n : ℕ) (C : Configurati
   abbrev next : Configuration
   next = pass P F n (X .readings) C
 
+  -- what is lent to a tick suits it where it is right by Giotto's configurations alone
   pub given-suits : Sound T W S → Related T W S F n C s
       → length (X .readings) ≡ maxPorts → length (X .results) ≡ maxPorts → length (X .times) ≡ maxTasks
       → ((t : ℕ) → member t (releasedBy P F n (X .readings) C) ≡ true → InRange (numAt (X .times) t) (task P t .worst))

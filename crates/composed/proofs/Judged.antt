@@ -35,11 +35,11 @@ use Rattle.composed.proofs.Within.{related-fits}
 code-whole : (T : Tables) → CodeFits T → WholeRows wordsEach maxCode (emit (listingOf T))
 code-whole T f = (length (listingOf T), emit-length (listingOf T) ∙ mul-comm wordsEach (length (listingOf T)), f)
 
--- what an advance asks of the tables
+-- what an advance asks of the tables: numbers 2 to 11
 abbrev asked : List (Refusal Advance)
 asked = map (within (λ (L : Advance). L .tables)) (tableRefusals ++ (longRefusal ∷ []))
 
--- 2 to 11 do not apply
+-- numbers 2 to 11 do not apply to an advance of an accepted program whose code fits
 asked-none : (L : Advance) → programVerdict (L .tables) ≡ acceptedNumber → CodeFits (L .tables) → verdict asked L ≡ acceptedNumber
 unfolding codeLong
 asked-none L a f =
@@ -47,7 +47,7 @@ asked-none L a f =
     ∙ (verdict-skip tableRefusals (longRefusal ∷ []) (L .tables) (accepted-clear (L .tables) a .1)
     ∙ clear-verdict (longRefusal ∷ []) (L .tables) (le-ltb _ _ f, tt))
 
--- the verdict is 0
+-- the static verdict on an advance of a related state is 0
 pub related-verdict : (T : Tables) (W S : List ℤ) (F : Function) → Sound T W S → (n : ℕ) (C : Configuration) (s : State) (X : Lent) → Related T W S F n C s
     → length (X .readings) ≡ maxPorts → length (X .results) ≡ maxPorts → length (X .times) ≡ maxTasks
     → advanceVerdict (byCompiled T S X s) ≡ acceptedNumber

@@ -28,11 +28,11 @@ module _ (T : Tables) (W S : List ℤ) (F : Function) (sound : Sound T W S) (k n
   abbrev P : Program
   P = programOf T
 
-  -- the tick of the round
+  -- the tick of the round in which the unit is
   abbrev now : ℕ
   now = k * ticksOf (mode P (C .mode)) + u .elapsed
 
-  -- who runs, runs in its window
+  -- a supplier that runs, runs in one of its windows
   inside : (j : ℕ) → j < suppliers → runsNow S u j ≡ true → inWindow W j (C .mode) now ≡ true
   inside j l r =
       let d = worstRun T W S F j (C .mode) k (u .elapsed) in
@@ -45,12 +45,12 @@ module _ (T : Tables) (W S : List ℤ) (F : Function) (sound : Sound T W S) (k n
       → InWindow W j (C .mode) (k * ticksOf (mode P (C .mode)) + u .elapsed)
   windows-kept j l r = in-window-says W j (C .mode) now .yes (inside j l r)
 
-  -- two that run are one
+  -- two suppliers that run in one tick are one
   pub one-runs : (i j : ℕ) → i < suppliers → j < suppliers → runsNow S u i ≡ true → runsNow S u j ≡ true → i ≡ j
   one-runs i j p q x y =
       windows-one (record { tables = T; windows = W }) (sound .windows) i j (C .mode) now (inside i p x) (inside j q y)
 
-  -- so there are not several
+  -- no several suppliers run in one tick
   pub not-several : running S u ≡ several → ⊥
   not-several e =
       let c = collides S u .0 e in

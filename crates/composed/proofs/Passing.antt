@@ -28,7 +28,7 @@ use Rattle.machine.specs.Schedules.{placeOf, actOf, movedOf, afterTick}
 use Rattle.composed.specs.Sound.{Sound}
 use Rattle.composed.specs.Related.{OwnedBy, tasksOf, worstRun, Going}
 
--- the next time stamp
+-- the machine's clock, one tick later, is the next tick's number modulo 2^32
 clock-next : (time n : ℕ) → time ≡ n % 2 ^ 32 → (time + 1) % 2 ^ 32 ≡ suc n % 2 ^ 32
 clock-next time n e =
     ap (λ (t : ℕ). (t + 1) % 2 ^ 32) e ∙ (mod-add-mod n (2 ^ 32) 1 ∙ ap (λ (m : ℕ). m % 2 ^ 32) (add-one n))
@@ -38,7 +38,7 @@ module _ (T : Tables) (W S : List ℤ) (F : Function) (sound : Sound T W S) (k n
   abbrev P : Program
   P = programOf T
 
-  -- each supplier stays ahead of its worst-case run alone
+  -- after a tick each supplier stays ahead of its worst-case run alone
   ahead-next : (r : List ℕ) (j : ℕ) → j < suppliers → AtMost (OwnedBy P j) r (after (actOf S u j) (u .left))
       → Dominated (OwnedBy P j) (blockOf S j (u .current)) (u .elapsed + 1)
       (record { position = getD (each (movedOf S u) suppliers 0) j 0; left = r }) (worstRun T W S F j (C .mode) k (u .elapsed + 1))
@@ -56,7 +56,7 @@ module _ (T : Tables) (W S : List ℤ) (F : Function) (sound : Sound T W S) (k n
       Dominated (OwnedBy P j) block x (record { position = getD (each (movedOf S u) suppliers 0) j 0; left = r }) (worstRun T W S F j (C .mode) k x))
       (sym (add-one e)) c
 
-  -- the unit goes on
+  -- after a tick with these remaining times and local outputs the unit goes on
   pub passing : (r : List ℕ) (o : List ℤ) → length r ≡ maxTasks → length o ≡ maxPorts
       → ((t : ℕ) → leftOf r t ≤ leftOf (u .left) t)
       → ((j : ℕ) → j < suppliers → AtMost (OwnedBy P j) r (after (actOf S u j) (u .left)))

@@ -38,7 +38,7 @@ module _ (T : Tables) (W S : List ℤ) (F : Function) (n : ℕ) (C : Configurati
   abbrev P : Program
   P = programOf T
 
-  -- the E part is not refused; Giotto's configuration after it goes with the state that it leaves
+  -- the E part of the tick is not refused, and the state that it leaves goes with Giotto's configuration after it
   pub record Readied : Type 0 where
     pub unit : ℕ
     pub state : State
@@ -48,7 +48,7 @@ module _ (T : Tables) (W S : List ℤ) (F : Function) (n : ℕ) (C : Configurati
 
   module _ (h : Sound T W S)
       (x : (t : ℕ) → member t (releasedBy P F n readings C) ≡ true → InRange (numAt times t) (task P t .worst)) where
-    -- an instant is run
+    -- the E part runs an instant where no tick of the unit remains
     edge-readied : Edge T W S F n C s → s .remaining ≡ 0 → Readied
     edge-readied g z =
         record {
@@ -86,7 +86,7 @@ module _ (T : Tables) (W S : List ℤ) (F : Function) (n : ℕ) (C : Configurati
         in-range : (t : ℕ) → member t due ≡ true → InRange (numAt times t) (task P t .worst)
         in-range t m = x t (subst (λ (ts : List ℕ). member t ts ≡ true) (sym (releases-then P F n readings C (g .stamp))) m)
 
-    -- nothing is run
+    -- the E part runs nothing where a tick of the unit remains
     going-readied : (k : ℕ) → Going T W S F k n C s → 0 < s .remaining → Readied
     going-readied k g l =
         record {
@@ -105,6 +105,6 @@ module _ (T : Tables) (W S : List ℤ) (F : Function) (n : ℕ) (C : Configurati
         go (yes z) = edge-readied (going-edge T W S F h k n C s g z) z
         go (no z) = going-readied k g (omega arith)
 
-  -- the state that it leaves is that one
+  -- the state that the E part leaves is the one that goes with Giotto's configuration
   pub readied-one : (b : Readied) (u : State) → ready P (instructions (emit (listingOf T))) readings times s ≡ ok u → b .state ≡ u
   readied-one b u e = finished (sym (b .runs) ∙ e)

@@ -19,7 +19,7 @@ use Rattle.program.specs.Ports.{valueOf, valuesOf}
 use Rattle.program.proofs.Decoded.{output-declared}
 use Rattle.rules.proofs.Shape.{ports-few}
 use Rattle.rules.proofs.Accepted.{accepted-shaped}
-use Rattle.runs.specs.Tick.{leftOf, Act, run, after}
+use Rattle.runs.specs.Tick.{leftOf, Act, work, after}
 use Rattle.runs.specs.Schedule.{blockOf}
 use Rattle.runs.proofs.Tick.{tick-busy, after-less, rests}
 use Rattle.giotto.specs.Instant.{Configuration, Function, results}
@@ -41,7 +41,7 @@ module _ (T : Tables) (W S : List ℤ) (F : Function) (sound : Sound T W S) (k n
   abbrev P : Program
   P = programOf T
 
-  -- a tick in which nobody runs
+  -- after a tick in which nobody runs the unit goes on
   nobody-ticked : ((j : ℕ) → j < suppliers → runsNow S u j ≡ false) → Going T W S F k (suc n) C (afterTick S u (u .left) (u .outputs))
   nobody-ticked none =
       passing T W S F sound k n C u h more (u .left) (u .outputs) (h .all-left) (h .all-outputs) (λ t. omega arith)
@@ -49,14 +49,15 @@ module _ (T : Tables) (W S : List ℤ) (F : Function) (sound : Sound T W S) (k n
       (h .held)
 
   -- a tick in which task t of supplier i runs
-  module _ (t i : ℕ) (l : i < suppliers) (q : actOf S u i ≡ run t) (only : (j : ℕ) → j < suppliers → runsNow S u j ≡ true → j ≡ i)
+  module _ (t i : ℕ) (l : i < suppliers) (q : actOf S u i ≡ work t) (only : (j : ℕ) → j < suppliers → runsNow S u j ≡ true → j ≡ i)
       (e : running S u ≡ one t)
       (fits : (p : ℕ) → leftOf (u .left) t ≡ 1 → member p (task P t .outputs) ≡ true
       → valueOf given p ≡ F t (valuesOf (u .ports) (task P t .inputs)) p) where
-    -- it has time left, so it is one of the mode's
+    -- a task that runs has time left
     busy : 1 ≤ leftOf (u .left) t
     busy = tick-busy (blockOf S i (u .current)) (u .elapsed) (placeOf S u i) t q
 
+    -- a task that runs is one of the mode's, since no other has time left
     in-mode : member t (tasksOf P (C .mode)) ≡ true
     in-mode = go (member t (tasksOf P (C .mode))) refl
       where
@@ -64,53 +65,53 @@ module _ (T : Tables) (W S : List ℤ) (F : Function) (sound : Sound T W S) (k n
         go true z = z
         go false z = absurd (omega (arith, busy, h .others t z))
 
-    -- what the tick does
-    worked : Worked P given t u (afterTick S u (after (run t) (u .left)) (outputsAfter P given u t))
+    -- what a tick in which a task runs does to the state
+    worked : Worked P given t u (afterTick S u (after (work t) (u .left)) (outputsAfter P given u t))
     worked =
-        let v = afterTick S u (after (run t) (u .left)) (outputsAfter P given u t) in
+        let v = afterTick S u (after (work t) (u .left)) (outputsAfter P given u t) in
         subst (λ (w : Who). Works P given w u v) e (tick-passes P S given u v (ap (ticked P S given u) e) .works)
 
     -- no supplier's tasks owe more than after the supplier's own act
-    own : (j : ℕ) → j < suppliers → (x : ℕ) → leftOf (after (run t) (u .left)) x ≤ leftOf (after (actOf S u j) (u .left)) x
+    own : (j : ℕ) → j < suppliers → (x : ℕ) → leftOf (after (work t) (u .left)) x ≤ leftOf (after (actOf S u j) (u .left)) x
     own j m x = go (runsNow S u j) refl
       where
-        go : (b : Bool) → runsNow S u j ≡ b → leftOf (after (run t) (u .left)) x ≤ leftOf (after (actOf S u j) (u .left)) x
+        go : (b : Bool) → runsNow S u j ≡ b → leftOf (after (work t) (u .left)) x ≤ leftOf (after (actOf S u j) (u .left)) x
         go true z =
-            let a : actOf S u j ≡ run t = ap (actOf S u) (only j m z) ∙ q in
+            let a : actOf S u j ≡ work t = ap (actOf S u) (only j m z) ∙ q in
             let b = ap (λ (a : Act). leftOf (after a (u .left)) x) a in omega (arith, b)
         go false z =
-            let b = ap (λ (r : List ℕ). leftOf r x) (rests (actOf S u j) (u .left) z) in omega (arith, b, after-less (run t) (u .left) x)
+            let b = ap (λ (r : List ℕ). leftOf r x) (rests (actOf S u j) (u .left) z) in omega (arith, b, after-less (work t) (u .left) x)
 
-    -- completing, it has its results in its local outputs
-    completed : (p : ℕ) → leftOf (after (run t) (u .left)) t ≡ 0 → member p (task P t .outputs) ≡ true
+    -- a task that completes has its results in its local outputs
+    completed : (p : ℕ) → leftOf (after (work t) (u .left)) t ≡ 0 → member p (task P t .outputs) ≡ true
         → valueOf (outputsAfter P given u t) p ≡ results P F (C .ports) t p
     completed p z m =
         let c : leftOf (u .left) t ≡ 1 = omega (arith, busy, worked .nearer, z) in
         let b : p < length (u .outputs) = omega (arith, h .all-outputs, ports-few T (accepted-shaped T (sound .accepted)), output-declared T t p m .0) in
         worked .completes c p b m ∙ (fits p c m ∙ ap (λ (v : List ℤ). F t (valuesOf v (task P t .inputs)) p) (h .ports))
 
-    -- the others that have ended keep theirs
-    holds : (x p : ℕ) → member x (tasksOf P (C .mode)) ≡ true → leftOf (after (run t) (u .left)) x ≡ 0 → member p (task P x .outputs) ≡ true
+    -- after the tick every task of the mode that has ended has its results in its local outputs
+    holds : (x p : ℕ) → member x (tasksOf P (C .mode)) ≡ true → leftOf (after (work t) (u .left)) x ≡ 0 → member p (task P x .outputs) ≡ true
         → valueOf (outputsAfter P given u t) p ≡ results P F (C .ports) x p
     holds x p w z m = go (ℕ-discrete x t)
       where
         go : Dec (x ≡ t) → valueOf (outputsAfter P given u t) p ≡ results P F (C .ports) x p
         go (yes d) =
             subst (λ (y : ℕ). valueOf (outputsAfter P given u t) p ≡ results P F (C .ports) y p) (sym d)
-            (completed p (subst (λ (y : ℕ). leftOf (after (run t) (u .left)) y ≡ 0) d z) (subst (λ (y : ℕ). member p (task P y .outputs) ≡ true) d m))
+            (completed p (subst (λ (y : ℕ). leftOf (after (work t) (u .left)) y ≡ 0) d z) (subst (λ (y : ℕ). member p (task P y .outputs) ≡ true) d m))
         go (no d) =
             worked .stays p (inl (is-false (says-itself (member p (task P t .outputs)))
             (λ y. d (tasks-one T (sound .accepted) (C .mode) x t p (h .declared) w in-mode m y))))
             ∙ h .held x p w (sym (worked .others x d) ∙ z) m
 
-    -- so the unit goes on
-    one-ticked : Going T W S F k (suc n) C (afterTick S u (after (run t) (u .left)) (outputsAfter P given u t))
+    -- after a tick in which one task runs the unit goes on
+    one-ticked : Going T W S F k (suc n) C (afterTick S u (after (work t) (u .left)) (outputsAfter P given u t))
     one-ticked =
-        passing T W S F sound k n C u h more (after (run t) (u .left)) (outputsAfter P given u t)
-        (length-set (u .left) t _ ∙ h .all-left) (outputs-length P given u t ∙ h .all-outputs) (after-less (run t) (u .left))
+        passing T W S F sound k n C u h more (after (work t) (u .left)) (outputsAfter P given u t)
+        (length-set (u .left) t _ ∙ h .all-left) (outputs-length P given u t ∙ h .all-outputs) (after-less (work t) (u .left))
         (λ j m x o. own j m x) holds
 
--- a tick is not refused, and the unit goes on
+-- a tick of the schedules is not refused, and the unit goes on after it
 pub tick-related : (T : Tables) (W S : List ℤ) (F : Function) → Sound T W S → (k n : ℕ) (C : Configuration) (u : State) (given : List ℤ)
     → Going T W S F k n C u → 1 ≤ u .remaining
     → ((t p : ℕ) → running S u ≡ one t → leftOf (u .left) t ≡ 1 → member p (task (programOf T) t .outputs) ≡ true
@@ -122,7 +123,7 @@ tick-related T W S F sound k n C u given h more fits = go (running S u) refl (kn
         → (v : State) × (ticked (programOf T) S given u w ≡ ok v) × Going T W S F k (suc n) C v
     go nobody e none = (afterTick S u (u .left) (u .outputs), refl, nobody-ticked T W S F sound k n C u given h more none)
     go (one t) e (i, l, q, only) = (
-      afterTick S u (after (run t) (u .left)) (outputsAfter (programOf T) given u t),
+      afterTick S u (after (work t) (u .left)) (outputsAfter (programOf T) given u t),
       refl,
       one-ticked T W S F sound k n C u given h more t i l q only e (λ p. fits t p e),
     )

@@ -1,5 +1,5 @@
 -- The state says the configuration: a state is related to no more than one at a tick. The address of the `future` that was executed says
--- the mode and the unit, and the rest follows. Assumes nothing but that both are related.
+-- the mode and the unit, and the rest follows. Assumes that both are related.
 use Prim.Native.Nat.{ℕ}
 use mathlib.Core.Path.{_≡_, sym, ap, _∙_, fun-ext}
 use mathlib.Core.List.{List}
@@ -19,7 +19,7 @@ module _ (T : Tables) (W S : List ℤ) (F : Function) (n : ℕ) (s : State) wher
   abbrev P : Program
   P = programOf T
 
-  -- one unit goes on
+  -- where a unit goes on with a state, it does with one configuration only
   going-one : (k j : ℕ) (C D : Configuration) → Going T W S F k n C s → Going T W S F j n D s → C ≡ D
   going-one k j C D g h = λ i. record {
     time = time i;
@@ -47,7 +47,7 @@ module _ (T : Tables) (W S : List ℤ) (F : Function) (n : ℕ) (s : State) wher
       active : C .active ≡ D .active
       active = fun-ext (λ t. g .active t ∙ ap (λ (m : ℕ). member t (tasksOf P m)) of-mode ∙ sym (h .active t))
 
-  -- in the fresh state none does: no `future` stands at address 0
+  -- no unit goes on with the fresh state: no `future` stands at address 0
   fresh-not-going : (k : ℕ) (C D : Configuration) → Fresh P F n C s → Going T W S F k n D s → ⊥
   fresh-not-going k C D f g =
       let z : futureAddress P (D .mode) k ≡ 0 = sym (g .current) ∙ ap (λ (u : State). u .current) (f .is-fresh) in

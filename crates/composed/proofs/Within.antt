@@ -33,13 +33,13 @@ use Rattle.composed.specs.Sound.{Sound}
 use Rattle.composed.specs.Suited.{byCompiled}
 use Rattle.composed.specs.Related.{Going, Related}
 
--- as many instructions as the listing has
+-- the compiled code has as many instructions as the listing
 code-count : (T : Tables) → length (emit (listingOf T)) / wordsEach ≡ length (listing (programOf T))
 unfolding listingOf
 code-count T =
     ap (λ (n : ℕ). n / wordsEach) (emit-length (listingOf T)) ∙ mul-div-cancel-left (length (listingOf T)) {n = wordsEach} (omega arith)
 
--- and at least one
+-- the compiled code has an instruction
 code-some : (T : Tables) → 0 < length (emit (listingOf T)) / wordsEach
 unfolding listing
 code-some T = omega (arith, code-count T)
@@ -49,7 +49,7 @@ block-few : (S : List ℤ) (j a : ℕ) → length (blockOf S j a) ≤ scheduleCo
 block-few S j a = those-few _ (rowOf S) (scheduleCount S) 0
 
 module _ (T : Tables) (a : programVerdict T ≡ acceptedNumber) where
-  -- no worst case is longer than the longest
+  -- no task's worst case is longer than the longest
   worst-few : (t : ℕ) → task (programOf T) t .worst ≤ maxWorst
   worst-few t = go (decLt t (taskCount T))
     where
@@ -64,7 +64,7 @@ module _ (T : Tables) (W S : List ℤ) (F : Function) (sound : Sound T W S) (n :
   abbrev P : Program
   P = programOf T
 
-  -- a fresh state
+  -- a fresh state is within the limits of number 21
   fresh-fits : StateFits (byCompiled T S X (stateOf (P .first)))
   fresh-fits = record {
     pending = code-some T;
@@ -75,7 +75,7 @@ module _ (T : Tables) (W S : List ℤ) (F : Function) (sound : Sound T W S) (n :
     positions = λ j l. omega (arith, zeros-at suppliers j);
   }
 
-  -- a state with which a unit goes on
+  -- a state with which a unit goes on is within the limits of number 21
   going-fits : (s : State) (k : ℕ) → Going T W S F k n C s → StateFits (byCompiled T S X s)
   going-fits s k h =
       let m = C .mode in
@@ -96,7 +96,7 @@ module _ (T : Tables) (W S : List ℤ) (F : Function) (sound : Sound T W S) (n :
         );
       }
 
-  -- so every related state fits the code and the schedule
+  -- every related state is within the limits of number 21
   pub related-fits : (s : State) → Related T W S F n C s → StateFits (byCompiled T S X s)
   related-fits s (inl f) = subst (λ (s : State). StateFits (byCompiled T S X s)) (sym (f .is-fresh)) fresh-fits
   related-fits s (inr (k, h)) = going-fits s k h

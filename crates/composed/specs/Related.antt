@@ -1,5 +1,5 @@
 -- How Giotto's configuration and the machine's state are related before every tick of a composed run: mode and unit from the addresses,
--- the active tasks, the ports, the local outputs, the remaining times. Assumes nothing.
+-- the active tasks, the ports, the local outputs, the remaining times.
 use Prim.Native.Nat.{ℕ, _+_, _%_, _^_, _≤_, _<_}
 use mathlib.Core.Path.{_≡_}
 use mathlib.Core.Bool.{true, false}
@@ -28,11 +28,11 @@ use Rattle.machine.specs.Advance.{stateOf}
 abbrev pub OwnedBy : Program → ℕ → ℕ → Type 0
 OwnedBy P j t = task P t .supplier ≡ j
 
--- the tasks of a mode: those that are due at its unit 0
+-- the tasks of mode m: those that are due at its unit 0
 abbrev pub tasksOf : Program → ℕ → List ℕ
 tasksOf P m = dueTasks (mode P m) 0
 
--- nothing has happened yet
+-- nothing has happened yet: tick 0, the initial configuration and the fresh state
 pub record Fresh (P : Program) (F : Function) (n : ℕ) (C : Configuration) (s : State) : Type 0 where
   pub no-tick : n ≡ 0
   pub initially : C ≡ initial P F
@@ -42,7 +42,7 @@ module _ (T : Tables) (W S : List ℤ) (F : Function) where
   abbrev P : Program
   P = programOf T
 
-  -- supplier j's worst-case run alone in mode m: in unit k after e ticks
+  -- the place of supplier j's worst-case run alone in mode m, in unit k after e ticks
   abbrev pub worstRun : ℕ → ℕ → ℕ → ℕ → Place
   worstRun j m k e = alone (course P W S j m) (worstCase (course P W S j m)) nothing k e
 
@@ -58,12 +58,12 @@ module _ (T : Tables) (W S : List ℤ) (F : Function) where
     pub ticks : s .elapsed + s .remaining ≡ ticksOf (mode P (C .mode))
     pub stamp : C .time ≡ n + s .remaining
     pub clock : s .time ≡ n % 2 ^ 32
-    -- the ports
+    -- the ports of the state are those of the configuration, and all are there
     pub ports : s .ports ≡ C .ports
     pub all-ports : length (s .ports) ≡ maxPorts
     pub all-outputs : length (s .outputs) ≡ maxPorts
     pub all-left : length (s .left) ≡ maxTasks
-    -- the tasks of the mode are active, and no other; no other has time left
+    -- the tasks of the mode are active, and no other task is active or has time left
     pub active : (t : ℕ) → C .active t ≡ member t (tasksOf P (C .mode))
     pub others : (t : ℕ) → member t (tasksOf P (C .mode)) ≡ false → leftOf (s .left) t ≡ 0
     -- a task of the mode that has ended has its results in its local outputs
@@ -74,6 +74,6 @@ module _ (T : Tables) (W S : List ℤ) (F : Function) where
     pub ahead : (j : ℕ) → j < suppliers
         → Dominated (OwnedBy P j) (blockOf S j (s .current)) (s .elapsed) (placeOf S s j) (worstRun j (C .mode) k (s .elapsed))
 
-  -- before tick n
+  -- before tick n the configuration C and the state s go together: nothing has happened yet, or a unit goes on
   abbrev pub Related : ℕ → Configuration → State → Type 0
   Related n C s = Fresh P F n C s ⊎ ((k : ℕ) × Going k n C s)

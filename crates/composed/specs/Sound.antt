@@ -1,5 +1,4 @@
 -- What is known of an accepted program with accepted windows and a joined schedule whose parts were accepted one by one.
--- Assumes nothing.
 use Prim.Native.Nat.{ℕ, _<_}
 use mathlib.Core.Path.{_≡_}
 use mathlib.Core.List.{List}

@@ -1,5 +1,5 @@
 -- What is asked of what a tick is lent, and only of what is used in it: whole slices, times in range for the tasks that are released in
--- it, and for the task that completes in it the results that its function gives for its inputs. Assumes nothing.
+-- it, and for the task that completes in it the results that its function gives for its inputs.
 use Prim.Native.Nat.{ℕ}
 use mathlib.Core.Path.{_≡_}
 use mathlib.Core.Bool.{true}
@@ -23,19 +23,19 @@ use Rattle.machine.specs.Schedules.{one, running}
 use Rattle.machine.specs.Advance.{Lent, Advance, ready}
 use Rattle.machine.specs.declared.State.{State}
 
--- an advance of state s by the compiled code, with what it is lent
+-- the advance of state s by the compiled code, with what it is lent
 abbrev pub byCompiled : Tables → List ℤ → Lent → State → Advance
 byCompiled T S X s = record { tables = T; code = emit (listingOf T); schedule = S; state = s; lent = X }
 
--- tick n, before which Giotto's configuration is C and the machine's state is s
+-- what tick n is lent suits it, where before it Giotto's configuration is C and the machine's state is s
 pub record Suited (T : Tables) (code : List ℕ) (S : List ℤ) (F : Function) (n : ℕ) (C : Configuration) (s : State) (X : Lent) : Type 0 where
   pub readings-length : length (X .readings) ≡ maxPorts
   pub results-length : length (X .results) ≡ maxPorts
   pub times-length : length (X .times) ≡ maxTasks
-  -- the execution time of a task that is released in it lies in 1..worst case
+  -- the execution time of a task that is released in the tick lies in 1..worst case
   pub times : (t : ℕ) → member t (releasedBy (programOf T) F n (X .readings) C) ≡ true
       → InRange (numAt (X .times) t) (task (programOf T) t .worst)
-  -- the results of a task that completes in it are the function of the task and its inputs
+  -- the results of a task that completes in the tick are the function of the task and its inputs
   pub results : (u : State) (t p : ℕ)
       → ready (programOf T) (instructions code) (X .readings) (X .times) s ≡ ok u
       → running S u ≡ one t

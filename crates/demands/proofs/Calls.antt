@@ -1,6 +1,5 @@
 -- Demand 1 holds of the definitions: each call's number is that of the first of its rules that is broken, an advance is accepted exactly
 -- where its rules hold and its tick passes, a refused one keeps the state, and a fresh state has its first values or is all 0.
--- Assumes nothing.
 use Prim.Native.Nat.{ℕ}
 use mathlib.Core.Path.{_≡_, refl, sym, _∙_}
 use mathlib.Core.Bool.{Bool}
@@ -16,9 +15,10 @@ use Rattle.rules.specs.Shape.{Shaped}
 use Rattle.rules.specs.Verdict.{shapeRefusal, tableRefusals, tableRules, programRules}
 use Rattle.rules.proofs.Shape.{shape-bars, slice-bars}
 use Rattle.rules.proofs.Verdict.{program-barred, program-first}
-use Rattle.code.specs.Compile.{Compiling, codeLong, longRefusal, longRule, CodeFits, lentRefusals, lentRules, sliceShort, sliceRefusals, sliceRules, compileRefusals, compileVerdict, compileRules}
+use Rattle.code.specs.Compile.{Compiling, codeLong, longRefusal, longRule, CodeFits, callRefusals, callRules, sliceShort, sliceRefusals}
+use Rattle.code.specs.Compile.{sliceRules, compileRefusals, compileVerdict, compileRules}
 use Rattle.code.proofs.Answers.{compile-number}
-use Rattle.suppliers.specs.Windows.{Windowed, windowsShapeBad, windowRefusals, windowsVerdict, WindowsShaped, windowRules}
+use Rattle.suppliers.specs.Windows.{Windowed, windowsShapeBad, windowRowsRefusals, windowsVerdict, WindowsShaped, windowRowsRules}
 use Rattle.suppliers.specs.Supplier.{Asked, supplierOf, partShapeBad, windowedOf, ownRefusals, partVerdict, PartShaped, ownRules, partRules}
 use Rattle.suppliers.proofs.Windows.{windows-bar}
 use Rattle.suppliers.proofs.Schedule.{part-bars, joined-bars}
@@ -29,17 +29,17 @@ use Rattle.machine.proofs.Fresh.{fresh-number, fresh-zero, fresh-first}
 use Rattle.machine.proofs.Exact.{advance-judged, advance-accepted, advance-only}
 use Rattle.demands.specs.Calls.{CompileExact, WindowsExact, AdvanceExact, FreshExact}
 
--- 11 bars code within the limit
+-- number 11 bars code within the limit
 pub long-bars : (T : Tables) → Bars (codeLong T) (CodeFits T)
 unfolding codeLong
 long-bars T = bars-lt _ _
 
--- a call that is lent the tables and more: its own tests bar its own rules, so its number is the first that applies
+-- where a call that is lent tables and more has tests that bar its rules, its number is the first that applies
 lent-exact : {A : Type 0} (tables : A → Tables) (shape : A → Bool) (own : List (Refusal A)) (Shape : A → Type 0) (rules : List (Rule A)) (a : A)
     → Bars (shape a) (Shape a) → (Shape a → Shaped (tables a)) → Barred own rules a
-    → (n : ℕ) → (verdict (lentRefusals tables shape own) a ≡ n) ↔ First (lentRules tables Shape rules) a n
+    → (n : ℕ) → (verdict (callRefusals tables shape own) a ≡ n) ↔ First (callRules tables Shape rules) a n
 lent-exact tables shape own Shape rules a s t w n =
-    verdict-first (lentRefusals tables shape own) (lentRules tables Shape rules) a (
+    verdict-first (callRefusals tables shape own) (callRules tables Shape rules) a (
       refl,
       s,
       λ h.
@@ -50,7 +50,7 @@ lent-exact tables shape own Shape rules a s t w n =
     )
     n
 
--- compiling
+-- compiling gives the number of the first rule that is broken
 compile-first : (L : Compiling) (n : ℕ) → (compileVerdict L ≡ n) ↔ First compileRules L n
 unfolding compileVerdict codeLong sliceShort
 compile-first L n =
@@ -67,14 +67,14 @@ compile-exact L n = (
   λ f. compile-number L ∙ compile-first L n .1 f,
 )
 
--- the windows verdict
+-- the windows verdict is the number of the first rule that is broken
 pub windows-exact : WindowsExact
 unfolding windowsVerdict windowsShapeBad
 windows-exact L n =
-    lent-exact (λ (L : Windowed). L .tables) windowsShapeBad windowRefusals WindowsShaped windowRules L
+    lent-exact (λ (L : Windowed). L .tables) windowsShapeBad windowRowsRefusals WindowsShaped windowRowsRules L
     (shape-bars (L .tables) or slice-bars _ _ (L .windows)) (λ h. h .0) (refl, windows-bar L, λ w. tt) n
 
--- a supplier's verdict up to 13
+-- a supplier's verdict up to 13 is the number of the first rule that is broken
 pub part-first : (L : Asked) (n : ℕ) → (partVerdict L ≡ n) ↔ First partRules L n
 unfolding partVerdict partShapeBad
 part-first L n =
@@ -87,14 +87,14 @@ part-first L n =
 pub part-kept : (L : Asked) → (partVerdict L ≡ acceptedNumber) ↔ Keep partRules L
 part-kept L = Iff·trans (part-first L acceptedNumber) (first-none partRules L (omega arith))
 
--- an advance, before it runs
+-- before it runs, an advance gives the number of the first rule that is broken
 advance-first : (L : Advance) (n : ℕ) → (advanceVerdict L ≡ n) ↔ First advanceRules L n
 unfolding advanceVerdict
 advance-first L n =
     lent-exact (λ (L : Advance). L .tables) advanceShapeBad runRefusals AdvanceShaped runRules L (advance-shape-bars L) (λ h. h .tables)
     (refl, joined-bars (L .tables) (L .schedule), λ w. (refl, state-bars L, λ p. tt)) n
 
--- where it gives no number, its rules hold, and what else was said with it
+-- where an advance gives no number before it runs, its rules hold, and what else was said with it
 pub advance-kept : (L : Advance) {X Y : Type 0} → X ↔ ((advanceVerdict L ≡ acceptedNumber) × Y) → X ↔ (Keep advanceRules L × Y)
 advance-kept L w =
     let k : (advanceVerdict L ≡ acceptedNumber) ↔ Keep advanceRules L =
@@ -111,7 +111,7 @@ advance-exact L = record {
   kept = refused-keeps L;
 }
 
--- a fresh state
+-- a fresh state is as document 01 says
 pub fresh-exact : (T : Tables) → FreshExact T
 fresh-exact T = record {
   number = λ n. (λ e. program-first T n .0 (sym (fresh-number T) ∙ e), λ f. fresh-number T ∙ program-first T n .1 f);

@@ -1,4 +1,4 @@
--- The compiled code does the instant. Assumes nothing: the statement's premises are that the program is compiled and that the machine
+-- The compiled code does the instant. The statement's premises are that the program is compiled and that the machine
 -- stands where a block begins.
 use mathlib.Core.Path.{_≡_, sym, ap, _∙_}
 use mathlib.Core.List.{List}

@@ -1,5 +1,5 @@
--- The composed run is Giotto's: the relation holds in the fresh state, every fair tick is accepted and keeps it, and it has the ports
--- equal. Assumes nothing: the statement's premises are that the system is accepted and that the ticks are fair.
+-- The composed run is Giotto's: the relation holds in the fresh state, every suited tick is accepted and keeps it, and it has the ports
+-- equal. The statement's premises are that the system is accepted and that the ticks are suited.
 use Prim.Native.Nat.{ℕ, zero, suc, _≤_, _<_}
 use mathlib.Core.Path.{_≡_, refl, sym, ap, subst, _∙_}
 use mathlib.Core.List.{List}
@@ -22,7 +22,8 @@ use Rattle.composed.specs.Sound.{Sound}
 use Rattle.composed.specs.Suited.{Suited}
 use Rattle.composed.specs.Related.{Related}
 use Rattle.composed.proofs.Run.{related-tick}
-use Rattle.demands.specs.Composed.{System, compiling, Accepted, joined, code, advanced, stateAt, readings, configurationAt, Fair, Right, ComposedRun, SameValues}
+use Rattle.demands.specs.Composed.{System, compiling, Accepted, joined, code, advanced, stateAt, readings, configurationAt}
+use Rattle.demands.specs.Composed.{SuitedAt, Right, ComposedRun, SameValues}
 use Rattle.demands.specs.Relation.{RelationKept, RelatedAlways}
 use Rattle.demands.proofs.Sound.{accepted-sound}
 
@@ -38,7 +39,7 @@ module _ (Y : System) (a : Accepted Y) (F : Function) (lents : ℕ → Lent) whe
   pub is-compiled : code Y ≡ emit (listingOf (Y .tables))
   is-compiled = words-are (compiling Y) (compile-passes (compiling Y) (a .compiled))
 
-  -- a fair tick is accepted and keeps the relation
+  -- a suited tick is accepted and keeps the relation
   one-tick : (n : ℕ) (C : Configuration) (s : State) (X : Lent) → Suited (Y .tables) (code Y) (joined Y) F n C s X
       → Related (Y .tables) (Y .windows) (joined Y) F n C s
       → (advanced Y X s .number ≡ acceptedNumber)
@@ -51,8 +52,8 @@ module _ (Y : System) (a : Accepted Y) (F : Function) (lents : ℕ → Lent) whe
       (sym is-compiled)
       (relation-kept (Y .tables) (Y .windows) (joined Y) sound F n C s X (subst (λ (ws : List ℕ). Suited (Y .tables) ws (joined Y) F n C s X) is-compiled x) r)
 
-  -- before every tick the relation holds, where those before it are fair
-  related : (n : ℕ) → ((k : ℕ) → k < n → Fair Y F lents k)
+  -- before every tick the relation holds, where those before it are suited
+  related : (n : ℕ) → ((k : ℕ) → k < n → SuitedAt Y F lents k)
       → Related (Y .tables) (Y .windows) (joined Y) F n (configurationAt Y F lents n) (stateAt Y lents n)
   related zero f =
       inl (record { no-tick = refl; initially = refl; is-fresh = ap (λ (b : Advanced). b .state) (sym (fresh-accepted (Y .tables) (sound .accepted))) })
@@ -64,8 +65,8 @@ module _ (Y : System) (a : Accepted Y) (F : Function) (lents : ℕ → Lent) whe
   same-ports n C s (inl f) = ap (λ (u : State). u .ports) (f .is-fresh) ∙ sym (ap (λ (D : Configuration). D .ports) (f .initially))
   same-ports n C s (inr (k, g)) = g .ports
 
-  -- every tick is right as long as all are fair
-  right : (n : ℕ) → ((k : ℕ) → k ≤ n → Fair Y F lents k) → Right Y F lents n
+  -- every tick is right as long as all are suited
+  right : (n : ℕ) → ((k : ℕ) → k ≤ n → SuitedAt Y F lents k) → Right Y F lents n
   right n f =
       record {
         accepted = one-tick n (configurationAt Y F lents n) (stateAt Y lents n) (lents n) (f n (omega arith)) (related n (λ k l. f k (omega arith))) .0;

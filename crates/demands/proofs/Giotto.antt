@@ -1,4 +1,4 @@
--- The execution of an accepted program is one by 001, and a configuration has one successor. Assumes nothing.
+-- The execution of an accepted program is one by 001, and a configuration has one successor.
 use mathlib.Core.Path.{refl}
 use lib.IntN.{pos}
 use Rattle.theory.proofs.Lists.{each-at}

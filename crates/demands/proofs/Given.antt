@@ -1,5 +1,5 @@
--- The composed run by Giotto's execution alone: what is lent as `Given` asks is fair at every tick, and the results computed from the
--- execution are what it asks for. Assumes nothing: the premises are the statements'.
+-- The composed run by Giotto's execution alone: what is lent as `Given` asks is suited at every tick, and the results computed from the
+-- execution are what it asks for. The premises are the statements'.
 use Prim.Native.Nat.{ℕ, zero, suc, _<_}
 use mathlib.Core.Path.{_≡_, refl, sym, ap, subst, _∙_}
 use mathlib.Core.Bool.{Bool, true}
@@ -28,36 +28,36 @@ use Rattle.giotto.proofs.ModeTasks.{active-declared, active-one}
 use Rattle.machine.specs.Advance.{Lent}
 use Rattle.composed.specs.Suited.{Suited}
 use Rattle.composed.proofs.Given.{given-suits}
-use Rattle.demands.specs.Composed.{System, Accepted, joined, stateAt, configurationAt, Fair}
+use Rattle.demands.specs.Composed.{System, Accepted, joined, stateAt, configurationAt, SuitedAt}
 use Rattle.demands.specs.Given.{Given, GivenFair, GivenRight, gives, resultsOf, lentBy, GivenMet, ExecutionRight}
 use Rattle.demands.proofs.Sound.{accepted-sound}
 use Rattle.demands.proofs.Composed.{is-compiled, related-always, composed-run}
 
 module _ (Y : System) (a : Accepted Y) (F : Function) (lents : ℕ → Lent) where
-  -- a tick that is lent what is asked for is fair, where those before it are
-  fair-next : (n : ℕ) → ((k : ℕ) → k < n → Fair Y F lents k) → Given (programOf (Y .tables)) F lents n → Fair Y F lents n
-  fair-next n f g =
+  -- a tick that is lent what is asked for is suited, where those before it are
+  suited-next : (n : ℕ) → ((k : ℕ) → k < n → SuitedAt Y F lents k) → Given (programOf (Y .tables)) F lents n → SuitedAt Y F lents n
+  suited-next n f g =
       subst (λ (ws : List ℕ). Suited (Y .tables) ws (joined Y) F n (configurationAt Y F lents n) (stateAt Y lents n) (lents n))
       (sym (is-compiled Y a F lents))
       (given-suits (Y .tables) (Y .windows) (joined Y) F n (configurationAt Y F lents n) (stateAt Y lents n) (lents n)
       (accepted-sound Y a) (related-always Y a F lents n f) (g .readings-length) (g .results-length) (g .times-length) (g .times) (g .results))
 
-  -- so all ticks below n are
-  fair-below : (n : ℕ) → ((k : ℕ) → k < n → Given (programOf (Y .tables)) F lents k) → (k : ℕ) → k < n → Fair Y F lents k
-  fair-below zero g = λ k l. absurd (omega arith)
-  fair-below (suc n) g = λ k l. go k l (decLt k n) (fair-below n (λ j b. g j (omega arith)))
+  -- all ticks below n that are lent what is asked for are suited
+  suited-below : (n : ℕ) → ((k : ℕ) → k < n → Given (programOf (Y .tables)) F lents k) → (k : ℕ) → k < n → SuitedAt Y F lents k
+  suited-below zero g = λ k l. absurd (omega arith)
+  suited-below (suc n) g = λ k l. go k l (decLt k n) (suited-below n (λ j b. g j (omega arith)))
     where
-      go : (k : ℕ) → k < suc n → Dec (k < n) → ((j : ℕ) → j < n → Fair Y F lents j) → Fair Y F lents k
+      go : (k : ℕ) → k < suc n → Dec (k < n) → ((j : ℕ) → j < n → SuitedAt Y F lents j) → SuitedAt Y F lents k
       go k l (yes b) f = f k b
       go k l (no b) f =
-          let e : n ≡ k = omega arith in subst (Fair Y F lents) e (fair-next n f (g n (omega arith)))
+          let e : n ≡ k = omega arith in subst (SuitedAt Y F lents) e (suited-next n f (g n (omega arith)))
 
 -- what is lent as asked for meets the premises of the composed run, so every tick is right
-pub given-fair : GivenFair
-given-fair Y a F lents n g = fair-below Y a F lents (suc n) (λ k l. g k (omega arith)) n (omega arith)
+pub given-suited : GivenFair
+given-suited Y a F lents n g = suited-below Y a F lents (suc n) (λ k l. g k (omega arith)) n (omega arith)
 
 pub given-right : GivenRight
-given-right Y a F lents n g = composed-run Y a .1 F lents n (λ k l. given-fair Y a F lents k (λ j b. g j (omega arith)))
+given-right Y a F lents n g = composed-run Y a .1 F lents n (λ k l. given-suited Y a F lents k (λ j b. g j (omega arith)))
 
 -- where the tasks that pass give values for their outputs, p gets x exactly where one of them has p as an output, and gives x for it
 gives-exactly : (pass : ℕ → Bool) (value : ℕ → ℕ → ℤ) (outputs : ℕ → List ℕ) (n p : ℕ) (x : ℤ)
@@ -72,7 +72,7 @@ gives-exactly pass value outputs n p x =
       λ (t, l, e, m, q). parts .1 (rows .1 (t, l, e, takes-exactly (value t) (outputs t) p x .1 (m, q))),
     )
 
--- so for an output of an active task the results have what the task gives: active tasks share no output
+-- for an output of an active task the results have what the task gives: active tasks share no output
 given-at : (T : Tables) → programVerdict T ≡ acceptedNumber → (F : Function) (readings : ℕ → List ℤ) (n t p : ℕ)
     → let C = execution (programOf T) F readings (suc n) in
     C .active t ≡ true → member p (task (programOf T) t .outputs) ≡ true
@@ -112,7 +112,7 @@ given-met T a F readings times f n = record {
   results = λ t p e m. given-at T a F readings n t p e m;
 }
 
--- so every accepted system runs as Giotto's execution
+-- every accepted system runs as Giotto's execution
 pub execution-right : ExecutionRight
 execution-right Y a F readings times f n =
     given-right Y a F (lentBy (programOf (Y .tables)) F readings times) n

@@ -1,5 +1,5 @@
 -- A supplier without tasks and rows is accepted, so a system is by the verdicts of the suppliers that have something to do.
--- Assumes nothing: the premises are the statements'.
+-- The premises are the statements'.
 use mathlib.Core.Path.{ap}
 use mathlib.Core.Logic.{⊎-elim}
 use Rattle.suppliers.specs.declared.Answer.{Answer}

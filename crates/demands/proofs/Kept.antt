@@ -1,6 +1,6 @@
 -- Suppliers keep their windows in a composed run: the E part of a tick leaves a unit going on, and who runs then, runs in one of its
 -- windows; the unit and its elapsed ticks are the tick's place in the round, and there is no other.
--- Assumes nothing: the statement's premises are that the system is accepted and that the ticks are fair.
+-- The statement's premises are that the system is accepted and that the ticks are suited.
 use Prim.Native.Nat.{ℕ, suc, _<_}
 use mathlib.Core.Path.{_≡_, sym, subst, _∙_}
 use mathlib.Core.List.{List}

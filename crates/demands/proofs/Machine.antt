@@ -1,5 +1,4 @@
 -- When a run is refused, what an accepted advance changes, and how long its instant may be, of the definitions.
--- Assumes nothing.
 use Prim.Native.Nat.{ℕ, _+_, _%_, _^_, _≤_, _<_}
 use mathlib.Core.Path.{_≡_, ap, subst, _∙_}
 use mathlib.Core.Logic.{_⊎_, inl, inr}
@@ -10,14 +9,15 @@ use Rattle.machine.specs.Comes.{program, code}
 use Rattle.machine.specs.Moves.{InstantKeeps}
 use Rattle.machine.proofs.Exact.{advance-faulty, advance-time, advance-overruns, advance-runs-on, advance-collides}
 use Rattle.machine.proofs.Moved as moved
-use Rattle.demands.specs.Machine.{WordsExact, FaultyExact, TimeExact, OverrunExact, CountExact, CollisionExact, AdvanceMoves, TimeMoves, InstantCounted}
+use Rattle.demands.specs.Machine.{WordsExact, FaultyExact, TimeExact, OverrunExact, CountExact, CollisionExact, AdvanceMoves}
+use Rattle.demands.specs.Machine.{TimeMoves, InstantCounted}
 use Rattle.demands.proofs.Calls.{advance-kept}
 
 -- what the words of lent code say
 pub words-exact : WordsExact
 words-exact code i l o d = code-says code i l o d
 
--- 19, 16, 17, 20 and 18
+-- each of 19, 16, 17, 20 and 18 is given under exactly its condition
 pub faulty-exact : FaultyExact
 faulty-exact L = advance-kept L (advance-faulty L)
 

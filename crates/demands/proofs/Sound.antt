@@ -18,8 +18,8 @@ use Rattle.rules.proofs.Shape.{slice-bars}
 use Rattle.code.specs.Compile.{longRefusal, CodeFits}
 use Rattle.runs.specs.Schedule.{scheduleWidth}
 use Rattle.runs.specs.Round.{Course, Good, worstCase, nothing}
-use Rattle.runs.proofs.Exactly.{worst-fair}
-use Rattle.suppliers.specs.Windows.{Windowed, windowsShapeBad, windowRefusals, windowsVerdict, Windows}
+use Rattle.runs.proofs.Exactly.{worst-suited}
+use Rattle.suppliers.specs.Windows.{Windowed, windowsShapeBad, windowRowsRefusals, windowsVerdict, Windows}
 use Rattle.suppliers.specs.Schedule.{partBad, Part}
 use Rattle.suppliers.specs.Supplier.{Asked, supplierOf, courseOf, judged, partVerdict, supplierVerdict, windowedOf}
 use Rattle.suppliers.specs.declared.Answer.{Answer}
@@ -37,7 +37,7 @@ use Rattle.demands.proofs.Supplier.{good-exactly}
 windows-pass : (L : Windowed) → windowsVerdict L ≡ acceptedNumber → CodeFits (L .tables) × Windows L
 unfolding windowsVerdict
 windows-pass L e =
-    let own : List (Refusal Windowed) = within (λ (L : Windowed). L .tables) longRefusal ∷ windowRefusals in
+    let own : List (Refusal Windowed) = within (λ (L : Windowed). L .tables) longRefusal ∷ windowRowsRefusals in
     let first : List (Refusal Windowed) = record { number = shapeRefused; applies = windowsShapeBad } ∷ map (within (λ (L : Windowed). L .tables)) tableRefusals in
     let c = verdict-clear own L (omega arith) (verdict-both first own L (omega arith) e .1) in
     (long-bars (L .tables) .ok (c .0), windows-bar L .ok (c .1 .0))
@@ -62,7 +62,7 @@ worst-good : (L : Asked) → supplierVerdict L .number ≡ acceptedNumber → (m
     → Good (courseOf L m) (worstCase (courseOf L m)) nothing
 worst-good L e m l =
     let (a, j) = passes L e in
-    good-exactly L a .0 (ap (λ (b : Answer). b .number) j ∙ e) m l (worstCase (courseOf L m)) (worst-fair (courseOf L m) (part-some-time L a m l))
+    good-exactly L a .0 (ap (λ (b : Answer). b .number) j ∙ e) m l (worstCase (courseOf L m)) (worst-suited (courseOf L m) (part-some-time L a m l))
 
 -- an accepted system is sound
 pub accepted-sound : (Y : System) → Accepted Y → Sound (Y .tables) (Y .windows) (joined Y)

@@ -33,7 +33,7 @@ use Rattle.machine.specs.Instant.{Outcome, ok, stop}
 use Rattle.machine.specs.Schedules.{Who, nobody, one, several, running}
 use Rattle.machine.specs.Advance.{ready}
 use Rattle.machine.specs.declared.State.{State}
-use Rattle.demands.specs.Composed.{System, joined, code, advanced, stateAt, Fair}
+use Rattle.demands.specs.Composed.{System, joined, code, advanced, stateAt, SuitedAt}
 use Rattle.demands.specs.Supplied.{givenBy, givenIn, lentTo, history, supplied, worstTimes, SuppliedRight}
 use Rattle.demands.specs.Given.{Fed}
 use Rattle.demands.proofs.Composed.{composed-run}
@@ -58,7 +58,7 @@ module _ (Y : System) (F : Function) (readings times : ℕ → List ℤ) where
       go several = refl
   given-length (stop n) = refl
 
-  -- for an output of the task that runs, it is that of the task's function
+  -- for an output of the task that runs, the result is that of the task function
   given-right : (u : State) (t p : ℕ) → p < maxPorts → running (joined Y) u ≡ one t → member p (task P t .outputs) ≡ true
       → valueOf (givenBy P F u (running (joined Y) u)) p ≡ results P F (u .ports) t p
   given-right u t p l e m =
@@ -70,7 +70,7 @@ module _ (Y : System) (F : Function) (readings times : ℕ → List ℤ) where
       → ((n : ℕ) → length (readings n) ≡ maxPorts)
       → ((n : ℕ) → length (times n) ≡ maxTasks)
       → ((n t : ℕ) → member t (releasedAt P F readings n) ≡ true → InRange (numAt (times n) t) (task P t .worst))
-      → (n : ℕ) → Fair Y F (supplied Y F readings times) n
+      → (n : ℕ) → SuitedAt Y F (supplied Y F readings times) n
   premises-met w rl tl tr n =
       record {
         readings-length = rl n;
@@ -99,7 +99,7 @@ worst-in-range T a t l =
     let f = accepted-fields T a .tasks t l .worst .0 in
     rw (e, task-row T t l) (f, omega arith)
 
--- so worst-case times will do, with any task function and any readings
+-- worst-case times are in range, with any task function and any readings
 pub worst-fed : (T : Tables) → programVerdict T ≡ acceptedNumber → (F : Function) (readings : ℕ → List ℤ)
     → ((n : ℕ) → length (readings n) ≡ maxPorts)
     → Fed (programOf T) F readings (λ n. worstTimes (programOf T))
@@ -109,11 +109,11 @@ worst-fed T a F readings l = record {
   in-range = λ n t m. worst-in-range T a t (released-declared T (accepted-fields T a) F readings n t m);
 }
 
--- and with them every tick is fair
-pub worst-case-fair : (Y : System) → windowsVerdict (record { tables = Y .tables; windows = Y .windows }) ≡ acceptedNumber
+-- with worst-case times every tick is suited
+pub worst-case-suited : (Y : System) → windowsVerdict (record { tables = Y .tables; windows = Y .windows }) ≡ acceptedNumber
     → (F : Function) (readings : ℕ → List ℤ) → ((n : ℕ) → length (readings n) ≡ maxPorts)
-    → (n : ℕ) → Fair Y F (supplied Y F readings (λ k. worstTimes (programOf (Y .tables)))) n
-worst-case-fair Y w F readings rl =
+    → (n : ℕ) → SuitedAt Y F (supplied Y F readings (λ k. worstTimes (programOf (Y .tables)))) n
+worst-case-suited Y w F readings rl =
     let f = worst-fed (Y .tables) (windows-accepted _ w) F readings rl in
     premises-met Y F readings (λ k. worstTimes (programOf (Y .tables))) w (f .readings-length) (f .times-length) (f .in-range)
 

@@ -1,6 +1,5 @@
 -- Demand 3, first half, holds of the definitions: a supplier's schedule code is accepted exactly where every fair run keeps to
 -- its windows and terminations; the place is that of the worst-case run; a shorter run is dominated; other suppliers do not matter.
--- Assumes nothing.
 use Prim.Native.Nat.{ℕ, zero, suc, _≤_, _<_}
 use mathlib.Core.Path.{_≡_, refl, sym, ap, subst, _∙_, fun-ext}
 use mathlib.Core.Bool.{true}
@@ -21,7 +20,7 @@ use Rattle.program.specs.Tables.{tables, modeCount, taskSupplier, taskWorst}
 use Rattle.program.specs.Units.{rowMisses, isMultiple, units}
 use Rattle.program.specs.Program.{programOf}
 use Rattle.rules.specs.Shape.{badSlice}
-use Rattle.runs.specs.Windows.{windowCount, winSupplier, winMode, winFrom, winTo, inWindow, InWindow}
+use Rattle.runs.specs.Windows.{windowCount, windowSupplier, windowMode, windowFrom, windowTo, inWindow, InWindow}
 use Rattle.runs.specs.Schedule.{scheduleWidth}
 use Rattle.runs.specs.Round.{Choice, Good, WithinWorst, worstCase, Break, none, outside, late, worstBreak, nothing}
 use Rattle.runs.proofs.Windows.{in-window-says}
@@ -50,7 +49,7 @@ module _ (L : Asked) (a : partVerdict L ≡ acceptedNumber) where
     λ h m _ l. no-break-exactly (courseOf L m) nothing (part-some-time L a m (omega arith)) .1 (h m (omega arith)),
   )
 
-  -- the first mode whose run breaks
+  -- the first mode whose run breaks, and its break, are the place
   breaks-at : (m : ℕ) (b : Break) → (b ≡ none → ⊥) → BreaksFirst (λ m. worstBreak (courseOf L m) nothing) (modeCount (L .tables)) 0 m b ↔ BreaksAt L m b
   breaks-at m b d = (
     λ w. record {
@@ -78,14 +77,14 @@ domination C c d k r q h l b =
       runs-only = λ e. tick-runs Any (C .block k) e (shorter C c d k r q e) (longer C c d k r q e) o (w e);
     }
 
--- the run is good exactly where every fair run of every mode keeps to its windows and terminations
+-- the run is accepted exactly where every fair run of every mode keeps to its windows and terminations
 pub good-exactly : (L : Asked) → partVerdict L ≡ acceptedNumber
     → (judged L .number ≡ acceptedNumber)
     ↔ ((m : ℕ) → m < modeCount (L .tables) → (c : Choice) → WithinWorst (courseOf L m) c → Good (courseOf L m) c nothing)
 good-exactly L a =
     rw (judged-modes L) (Iff·trans (answer-good (λ m. worstBreak (courseOf L m) nothing) (modeCount (L .tables)) 0) (all-good L a))
 
--- its break is the lowest mode whose worst-case run breaks, and the first break in it
+-- the run's break is that of the lowest mode whose worst-case run breaks, and the first in it
 break-exactly : (L : Asked) → partVerdict L ≡ acceptedNumber → (m : ℕ) (b : Break) → (b ≡ none → ⊥)
     → (judged L ≡ answerOf m b) ↔ BreaksAt L m b
 break-exactly L a m b d =
@@ -120,17 +119,17 @@ HasTick m t w = (w .mode ≡ m) × (w .from ≤ t) × (t < w .to)
 -- a tick lies in a window of s exactly where one of the windows of s has it
 own-window : (W : List ℤ) (s m t : ℕ) → InWindow W s m t ↔ Has (HasTick m t) (ownWindows W s)
 own-window W s m t =
-    let r = has-those (HasTick m t) (λ i. eqb (winSupplier W i) s) (λ i. record { mode = winMode W i; from = winFrom W i; to = winTo W i }) (windowCount W) in (
-      λ w. r .1 (w .row, w .in-table, eq-eqb (winSupplier W (w .row)) s (w .owner), (w .has .of-mode, w .has .begun, w .has .not-over)),
+    let r = has-those (HasTick m t) (λ i. eqb (windowSupplier W i) s) (λ i. record { mode = windowMode W i; from = windowFrom W i; to = windowTo W i }) (windowCount W) in (
+      λ w. r .1 (w .row, w .in-table, eq-eqb (windowSupplier W (w .row)) s (w .owner), (w .has .of-mode, w .has .begun, w .has .not-over)),
       λ h. let (i, l, p, q) = r .0 h in record {
         row = i;
         in-table = l;
-        owner = eqb-true (winSupplier W i) s p;
+        owner = eqb-true (windowSupplier W i) s p;
         has = record { of-mode = q .0; begun = q .1; not-over = q .2 };
       },
     )
 
--- so the same windows of s have the same ticks
+-- where the windows of s are the same, the same ticks lie in them
 window-same : (W X : List ℤ) (s m : ℕ) → ownWindows W s ≡ ownWindows X s → inWindow W s m ≡ inWindow X s m
 window-same W X s m e = fun-ext (λ t. iff (inWindow W s m t) (inWindow X s m t) (over W X e t) (over X W (sym e) t))
   where
@@ -143,7 +142,7 @@ window-same W X s m e = fun-ext (λ t. iff (inWindow W s m t) (inWindow X s m t)
 abbrev changed : Asked → List ℤ → List ℤ → Asked
 changed L x W = record { tables = withTasks (L .tables) x; windows = W; part = L .part; supplier = L .supplier }
 
--- where only worst-case times and windows of other suppliers differ
+-- Only worst-case times and windows of other suppliers differ.
 module _ (L : Asked) (x W : List ℤ) (n : length (L .tables .tasks) ≡ length x)
     (p : (t : ℕ) → taskSupplier (L .tables) t ≡ taskSupplier (withTasks (L .tables) x) t)
     (q : (t : ℕ) → taskSupplier (L .tables) t ≡ supplierOf L → taskWorst (L .tables) t ≡ taskWorst (withTasks (L .tables) x) t)

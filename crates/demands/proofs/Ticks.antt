@@ -1,4 +1,4 @@
--- A tick of a block does what 003 says. Assumes nothing.
+-- A tick of a block does what 003 says.
 use Rattle.runs.proofs.Over.{tick-says}
 use Rattle.demands.specs.Ticks.{TickExact}
 

@@ -1,4 +1,4 @@
--- What an advance uses of what it is lent, of the definitions. Assumes nothing.
+-- What an advance uses of what it is lent, of the definitions.
 use Prim.Native.Nat.{ℕ, _<_}
 use mathlib.Core.Path.{_≡_, refl}
 use mathlib.Core.Logic.{inl, inr}

@@ -1,5 +1,4 @@
 -- Demand 2 holds of the definitions: the verdict exactly, the missing reading, and what compiling writes.
--- Assumes nothing.
 use Prim.Native.Nat.{ℕ, _*_, _≤_}
 use mathlib.Core.Path.{_≡_, ap, _∙_}
 use mathlib.Core.List.{List, _∷_, map}
@@ -47,7 +46,7 @@ fits L e =
     (bars-lt maxCode (length (listingOf (L .tables))) or bars-lt (length (L .slice)) (wordsEach * length (listingOf (L .tables)))) .ok
     (verdict-clear sliceRefusals L (omega arith) (verdict-both own sliceRefusals L (omega arith) e .1) .0)
 
--- not refused: the listing is written, and nothing else
+-- compiling that is not refused writes the listing, and nothing else
 pub listing-written : ListingWritten
 listing-written L z = record {
   length-rule = rw (e, compileAnswer) (accepted-length (L .tables) (compiled-accepted L e));
@@ -72,6 +71,6 @@ listing-written L z = record {
     words : length (emit (listingOf (L .tables))) ≡ wordsEach * length (listingOf (L .tables))
     words = emit-length (listingOf (L .tables))
 
--- refused: nothing is written, and the length is 0
+-- compiling that is refused writes nothing, and its length is 0
 pub refusal-keeps : RefusalKeeps
 refusal-keeps L h = compile-refused L h

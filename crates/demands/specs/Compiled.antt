@@ -1,6 +1,6 @@
 -- The compiled code does the instant, as a statement: at the words that compiling leaves, from the block of every mode and unit and from
 -- address 0 in a fresh state, whatever the ports, the readings and the remaining times.
--- Proved of these definitions in proofs/Compiled.antt. Assumes nothing.
+-- Proved of these definitions in proofs/Compiled.antt.
 use Prim.Native.Nat.{ℕ, _<_}
 use mathlib.Core.Path.{_≡_}
 use mathlib.Core.Bool.{true}
@@ -19,18 +19,18 @@ use Rattle.code.specs.Compile.{Compiling, compileAnswer, wordsOf}
 use Rattle.runs.specs.Tick.{leftOf}
 use Rattle.machine.specs.declared.State.{State}
 use Rattle.machine.specs.Instant.{Outcome, ok, stop, runInstant}
-use Rattle.compiled.specs.Done.{tasksReleased, done, AtBlock}
+use Rattle.compiled.specs.Done.{tasksReleased, afterInstant, AtBlock}
 
 module _ (L : Compiling) (readings times : List ℤ) (m k : ℕ) (s : State) where
   abbrev P : Program
   P = programOf (L .tables)
 
-  -- one instant over those words
+  -- one instant over the words that compiling leaves, with these readings and times
   abbrev pub instantOf : Outcome
   instantOf = runInstant P readings times (instructions (wordsOf L)) s
 
   pub record InstantDone : Type 0 where
-    -- it is never refused with 19 or 20; where every time lent is in its range, only with 17
+    -- an instant is never refused with 19 or 20; where every time lent is in its range, only with 17
     pub only-two : (n : ℕ) → instantOf ≡ stop n → (n ≡ timeRefused) ⊎ (n ≡ overrunRefused)
     pub only-late : ((t : ℕ) → t < taskCount (L .tables) → InRange (numAt times t) (task P t .worst))
         → (n : ℕ) → instantOf ≡ stop n → n ≡ overrunRefused
@@ -39,9 +39,9 @@ module _ (L : Compiling) (readings times : List ℤ) (m k : ℕ) (s : State) whe
     pub does : ((t : ℕ) → member t (dueTasks (mode P m) k) ≡ true → leftOf (s .left) t ≡ 0)
         → ((t : ℕ) → member t (tasksReleased P readings m k s) ≡ true → leftOf (s .left) t ≡ 0)
         → ((t : ℕ) → member t (tasksReleased P readings m k s) ≡ true → InRange (numAt times t) (task P t .worst))
-        → instantOf ≡ ok (done P readings m k s times)
+        → instantOf ≡ ok (afterInstant P readings m k s times)
 
--- for every program that is compiled
+-- the compiled code of every program does the instant
 abbrev pub CompiledInstant : Type 0
 CompiledInstant =
     (L : Compiling) → compileAnswer L .number ≡ acceptedNumber

@@ -1,6 +1,6 @@
 -- Demand 3, second half, as statements about the public calls: suppliers accepted one by one, composed, run for ever without overrun or
 -- collision, and at every tick every port holds the value that Giotto's definition gives for the same readings.
--- Proved of these definitions in proofs/Composed.antt. Assumes nothing.
+-- Proved of these definitions in proofs/Composed.antt.
 use Prim.Native.Nat.{ℕ, zero, suc, _≤_, _<_}
 use mathlib.Core.Path.{_≡_}
 use mathlib.Core.List.{List}
@@ -30,7 +30,7 @@ pub record System : Type 0 where
 abbrev pub compiling : System → Compiling
 compiling Y = record { tables = Y .tables; slice = Y .slice }
 
--- program and windows accepted, the program compiled, each supplier's code accepted alone
+-- a system is accepted: its program and windows are, the program is compiled, and each supplier's code is accepted alone
 pub record Accepted (Y : System) : Type 0 where
   pub windows : windowsVerdict (record { tables = Y .tables; windows = Y .windows }) ≡ acceptedNumber
   pub compiled : compileAnswer (compiling Y) .number ≡ acceptedNumber
@@ -38,14 +38,14 @@ pub record Accepted (Y : System) : Type 0 where
       → supplierVerdict (record { tables = Y .tables; windows = Y .windows; part = Y .parts s; supplier = pos s }) .number ≡ acceptedNumber
 
 module _ (Y : System) where
-  -- the parts one after the other, and the E code that compiling left
+  -- the joined schedule is the parts one after the other (`joined`), and the E code is what compiling left (`code`)
   abbrev pub joined : List ℤ
   joined = cat (Y .parts) suppliers
 
   abbrev pub code : List ℕ
   code = wordsOf (compiling Y)
 
-  -- one advance, with what is lent to it
+  -- one advance of the system from a state, with what is lent to it
   abbrev pub advanced : Lent → State → Advanced
   advanced X s = advanceAnswer (record { tables = Y .tables; code = code; schedule = joined; state = s; lent = X })
 
@@ -64,20 +64,20 @@ module _ (Y : System) where
 
     -- What is asked of tick n, and only of what is used in it: whole slices; the time of a task that is released in it from 1 to its
     -- worst case; the results of a task that completes in it F of the task and of the values of its inputs
-    abbrev pub Fair : ℕ → Type 0
-    Fair n = Suited (Y .tables) code joined F n (configurationAt n) (stateAt lents n) (lents n)
+    abbrev pub SuitedAt : ℕ → Type 0
+    SuitedAt n = Suited (Y .tables) code joined F n (configurationAt n) (stateAt lents n) (lents n)
 
     -- What is promised of tick n: it is not refused, and after it all ports hold Giotto's values
     pub record Right (n : ℕ) : Type 0 where
       pub accepted : advanced (lents n) (stateAt lents n) .number ≡ acceptedNumber
       pub ports : stateAt lents (suc n) .ports ≡ portsAt (programOf (Y .tables)) F readings n
 
--- The composed run is Giotto's: the fresh state is given, and every tick is right as long as all ticks up to it are fair
+-- The composed run is Giotto's: the fresh state is given, and every tick is right as long as all ticks up to it are suited
 abbrev pub ComposedRun : Type 0
 ComposedRun =
     (Y : System) → Accepted Y
     → (freshAnswer (Y .tables) .number ≡ acceptedNumber)
-    × ((F : Function) (lents : ℕ → Lent) (n : ℕ) → ((k : ℕ) → k ≤ n → Fair Y F lents k) → Right Y F lents n)
+    × ((F : Function) (lents : ℕ → Lent) (n : ℕ) → ((k : ℕ) → k ≤ n → SuitedAt Y F lents k) → Right Y F lents n)
 
 -- So values do not hang on who computes when: two accepted systems of one program, with other windows, other schedule code, other execution
 -- times, show the same ports at every tick for the same task function and readings
@@ -85,5 +85,5 @@ abbrev pub SameValues : Type 0
 SameValues =
     (Y Z : System) → Accepted Y → Accepted Z → Y .tables ≡ Z .tables
     → (F : Function) (lents others : ℕ → Lent) → ((k : ℕ) → lents k .readings ≡ others k .readings)
-    → (n : ℕ) → ((k : ℕ) → k ≤ n → Fair Y F lents k) → ((k : ℕ) → k ≤ n → Fair Z F others k)
+    → (n : ℕ) → ((k : ℕ) → k ≤ n → SuitedAt Y F lents k) → ((k : ℕ) → k ≤ n → SuitedAt Z F others k)
     → stateAt Y lents (suc n) .ports ≡ stateAt Z others (suc n) .ports

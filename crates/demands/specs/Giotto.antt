@@ -1,6 +1,6 @@
 -- Demand 3, what "the value that Giotto's definition gives" means, as statements: the execution goes from a configuration to its successor
 -- by 001, section 3.2, at every instant, and to nothing else. (Where 001's step 6 moves the unit before step 7, document 01's steps (5) to
--- (7) decide: giotto/specs/Successor.) Proved of these definitions in proofs/Giotto.antt. Assumes nothing.
+-- (7) decide: giotto/specs/Successor.) Proved of these definitions in proofs/Giotto.antt.
 use Prim.Native.Nat.{ℕ, suc, _≤_, _<_}
 use mathlib.Core.Path.{_≡_}
 use mathlib.Core.Bool.{false}
@@ -25,12 +25,12 @@ SuccessorOne =
 
 -- An execution of a program, for any task function and any readings
 module _ (T : Tables) (F : Function) (readings : ℕ → List ℤ) where
-  -- the configuration before tick n
+  -- the configuration of the execution before tick n
   abbrev pub at : ℕ → Configuration
   at n = execution (programOf T) F readings n
 
   pub record Executes : Type 0 where
-    -- C₀ = (0, start, 0, init, ∅)
+    -- the execution begins with C₀ = (0, start, 0, init, ∅)
     pub time : at 0 .time ≡ 0
     pub mode : at 0 .mode ≡ startMode T
     pub unit : at 0 .unit ≡ 0
@@ -39,7 +39,7 @@ module _ (T : Tables) (F : Function) (readings : ℕ → List ℤ) where
     -- at its time stamp a configuration goes on to a successor, with the readings of that tick and the tasks' results for their inputs
     pub succeeds : (n : ℕ) → at n .time ≡ n
         → Successor T (results (programOf T) F (at n .ports)) (valueOf (readings n)) (at n) (at (suc n))
-    -- at any other tick it stays, and no time stamp is missed
+    -- at any other tick a configuration stays, and no time stamp is missed
     pub waits : (n : ℕ) → (at n .time ≡ n → ⊥) → at (suc n) ≡ at n
     pub ahead : (n : ℕ) → n ≤ at n .time
 

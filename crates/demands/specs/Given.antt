@@ -1,5 +1,5 @@
 -- The composed run by Giotto's execution alone: what is lent to a tick is asked for without the machine, its code or its schedules, and
--- can be computed without them. Proved of these definitions in proofs/Given.antt. Assumes nothing.
+-- can be computed without them. Proved of these definitions in proofs/Given.antt.
 use Prim.Native.Nat.{ℕ, suc, _≤_}
 use mathlib.Core.Path.{_≡_}
 use mathlib.Core.Bool.{true}
@@ -18,7 +18,7 @@ use Rattle.rules.specs.Verdict.{programVerdict}
 use Rattle.giotto.specs.Instant.{Configuration, Function, results}
 use Rattle.giotto.specs.Execution.{execution, releasedAt, portsAt}
 use Rattle.machine.specs.Advance.{Lent}
-use Rattle.demands.specs.Composed.{System, Accepted, Fair, Right}
+use Rattle.demands.specs.Composed.{System, Accepted, SuitedAt, Right}
 
 -- What is asked of tick n: whole slices; the time of a task that is released in it from 1 to its worst case; and for every task that is
 -- active in Giotto's configuration after the tick's instant, and each of its outputs, the result that F gives for the task's inputs
@@ -30,22 +30,22 @@ pub record Given (P : Program) (F : Function) (lents : ℕ → Lent) (n : ℕ) :
   pub results : (t p : ℕ) → execution P F (λ k. lents k .readings) (suc n) .active t ≡ true → member p (task P t .outputs) ≡ true
       → valueOf (lents n .results) p ≡ F t (valuesOf (portsAt P F (λ k. lents k .readings) n) (task P t .inputs)) p
 
--- That is enough for the composed run: a tick is fair, and so it is right, as long as all ticks up to it are lent what is asked for
+-- What is asked of ticks is enough for the composed run: a tick is suited, and so right, as long as all ticks up to it are lent it
 abbrev pub GivenFair : Type 0
 GivenFair =
     (Y : System) → Accepted Y → (F : Function) (lents : ℕ → Lent) (n : ℕ)
-    → ((k : ℕ) → k ≤ n → Given (programOf (Y .tables)) F lents k) → Fair Y F lents n
+    → ((k : ℕ) → k ≤ n → Given (programOf (Y .tables)) F lents k) → SuitedAt Y F lents n
 
 abbrev pub GivenRight : Type 0
 GivenRight =
     (Y : System) → Accepted Y → (F : Function) (lents : ℕ → Lent) (n : ℕ)
     → ((k : ℕ) → k ≤ n → Given (programOf (Y .tables)) F lents k) → Right Y F lents n
 
--- the active tasks give results for their outputs
+-- the results that the active tasks of a configuration give for their outputs
 abbrev pub gives : Program → Function → Configuration → List Put
 gives P F C = gather (λ t. takes (results P F (C .ports) t) (task P t .outputs)) (those (C .active) (λ t. t) maxTasks 0)
 
--- by port, what is given; 0 elsewhere
+-- the results by port: what the active tasks of a configuration give; 0 elsewhere
 abbrev pub resultsOf : Program → Function → Configuration → List ℤ
 resultsOf P F C = puts (gives P F C) (replicate maxPorts (pos 0))
 
@@ -60,13 +60,13 @@ pub record Fed (P : Program) (F : Function) (readings times : ℕ → List ℤ) 
   pub times-length : (n : ℕ) → length (times n) ≡ maxTasks
   pub in-range : (n t : ℕ) → member t (releasedAt P F readings n) ≡ true → InRange (numAt (times n) t) (task P t .worst)
 
--- That is what is asked for: active tasks share no output
+-- The results computed from Giotto's execution are what is asked of every tick: active tasks share no output
 abbrev pub GivenMet : Type 0
 GivenMet =
     (T : Tables) → programVerdict T ≡ acceptedNumber → (F : Function) (readings times : ℕ → List ℤ) → Fed (programOf T) F readings times
     → (n : ℕ) → Given (programOf T) F (lentBy (programOf T) F readings times) n
 
--- So every accepted system runs as Giotto's execution, for any task function, any readings and any times in range, with the results that
+-- Every accepted system runs as Giotto's execution, for any task function, any readings and any times in range, with the results that
 -- are computed from that execution
 abbrev pub ExecutionRight : Type 0
 ExecutionRight =

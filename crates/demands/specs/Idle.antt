@@ -1,5 +1,5 @@
 -- A supplier without tasks and rows is accepted: so for a system with three suppliers three verdicts are enough.
--- Proved of these definitions in proofs/Idle.antt. Assumes nothing.
+-- Proved of these definitions in proofs/Idle.antt.
 use Prim.Native.Nat.{ℕ, _<_}
 use mathlib.Core.Path.{_≡_}
 use mathlib.Core.List.{[]}
@@ -18,7 +18,7 @@ pub record Idle (L : Asked) : Type 0 where
   pub no-rows : L .part ≡ []
   pub no-tasks : (t : ℕ) → t < taskCount (L .tables) → taskSupplier (L .tables) t ≡ supplierOf L → ⊥
 
--- where program and windows are accepted, it is too
+-- where program and windows are accepted, a supplier without rows and tasks is accepted too
 abbrev pub IdleAccepted : Type 0
 IdleAccepted =
     (L : Asked) → windowsVerdict (windowedOf L) ≡ acceptedNumber → supplierOf L < suppliers → Idle L
@@ -28,7 +28,7 @@ IdleAccepted =
 abbrev pub askedOf : System → ℕ → Asked
 askedOf Y s = record { tables = Y .tables; windows = Y .windows; part = Y .parts s; supplier = pos s }
 
--- so a system is accepted by the windows verdict, by compiling, and by the verdicts of the suppliers that have something to do
+-- a system is accepted by the windows verdict, by compiling, and by the verdicts of the suppliers that have something to do
 abbrev pub AcceptedOf : Type 0
 AcceptedOf =
     (Y : System)

@@ -1,6 +1,6 @@
 -- Demand 1 for the machine, as statements about what an advance returns: each of 16 to 20 under exactly its condition, order included;
 -- what an accepted advance changes, and how long its instant may be. (The numbers before anything runs, and that a refusal hands the
--- state back: `AdvanceExact` in Calls.antt.) Proved in proofs/Machine.antt. Assumes nothing.
+-- state back: `AdvanceExact` in Calls.antt.) Proved in proofs/Machine.antt.
 use Prim.Native.Nat.{ℕ, _+_, _*_, _/_, _%_, _^_, _<_}
 use mathlib.Core.Path.{_≡_}
 use mathlib.Core.List.{List, [], _∷_}
@@ -16,8 +16,8 @@ use Rattle.machine.specs.Advance.{Advance, advanceRules, advanceAnswer}
 use Rattle.machine.specs.Comes.{Faults, TimeWrong, Overruns, RunsOn, Collides, Returns}
 use Rattle.machine.specs.Moves.{Advances}
 
--- "One instruction is three unsigned 32-bit words, unused words 0": of lent code, instruction i is o exactly where its three words are those
--- of o. All else is faulty
+-- "One instruction is three unsigned 32-bit words, unused words 0": of lent code, instruction i is o exactly where its three words are
+-- those of o. All else is faulty
 abbrev pub WordsExact : Type 0
 WordsExact =
     (code : List ℕ) (i : ℕ) → i < length code / wordsEach → (o : Op) → (o ≡ faulty → ⊥)
@@ -28,19 +28,19 @@ WordsExact =
 abbrev pub FaultyExact : Type 0
 FaultyExact = (L : Advance) → (advanceAnswer L .number ≡ faultyRefused) ↔ (Keep advanceRules L × Faults L)
 
--- 16: it comes to one that is not faulty, and releases a task with a time outside 1..worst case
+-- 16: the instant comes to an instruction that is not faulty, and releases a task with a time outside 1..worst case
 abbrev pub TimeExact : Type 0
 TimeExact = (L : Advance) → (advanceAnswer L .number ≡ timeRefused) ↔ (Keep advanceRules L × TimeWrong L)
 
--- 17: it comes to one that is neither, and ends or releases a task that is still running
+-- 17: the instant comes to an instruction that neither 19 nor 16 refuses, and ends or releases a task that is still running
 abbrev pub OverrunExact : Type 0
 OverrunExact = (L : Advance) → (advanceAnswer L .number ≡ overrunRefused) ↔ (Keep advanceRules L × Overruns L)
 
--- 20: it runs more instructions than the code has
+-- 20: the instant runs more instructions than the code has
 abbrev pub CountExact : Type 0
 CountExact = (L : Advance) → (advanceAnswer L .number ≡ countRefused) ↔ (Keep advanceRules L × RunsOn L)
 
--- 18: two suppliers run in its tick
+-- 18: two suppliers run in the tick of an advance
 abbrev pub CollisionExact : Type 0
 CollisionExact = (L : Advance) → (advanceAnswer L .number ≡ collisionRefused) ↔ (Keep advanceRules L × Collides L)
 
@@ -52,7 +52,7 @@ AdvanceMoves = (L : Advance) → advanceAnswer L .number ≡ acceptedNumber → 
 abbrev pub TimeMoves : Type 0
 TimeMoves = (L : Advance) → advanceAnswer L .number ≡ acceptedNumber → advanceAnswer L .state .time ≡ (L .state .time + 1) % 2 ^ 32
 
--- an accepted advance in which no tick of the unit remained: its instant came to a `return` that is not faulty, in no more
+-- the instant of an accepted advance in which no tick of the unit remained came to a `return` that is not faulty, in no more
 -- instructions than the lent code has
 abbrev pub InstantCounted : Type 0
 InstantCounted =

@@ -1,6 +1,6 @@
 -- The relation between Giotto's configuration and the machine's state (composed/specs/Related) that the proof of the composed run
 -- carries, as statements: one tick keeps it, so it holds before every tick. For later requests and for whoever reads that proof; the
--- demand itself is in Composed.antt. Proved in proofs/Composed.antt. Assumes nothing.
+-- demand itself is in Composed.antt. Proved in proofs/Composed.antt.
 use Prim.Native.Nat.{ℕ, suc, _<_}
 use mathlib.Core.Path.{_≡_}
 use mathlib.Core.List.{List}
@@ -17,9 +17,9 @@ use Rattle.machine.specs.declared.State.{State}
 use Rattle.composed.specs.Sound.{Sound}
 use Rattle.composed.specs.Suited.{byCompiled, Suited}
 use Rattle.composed.specs.Related.{Related}
-use Rattle.demands.specs.Composed.{System, Accepted, joined, stateAt, configurationAt, Fair}
+use Rattle.demands.specs.Composed.{System, Accepted, joined, stateAt, configurationAt, SuitedAt}
 
--- it is kept by one tick of a sound system
+-- one tick of a sound system keeps the relation
 abbrev pub RelationKept : Type 0
 RelationKept =
     (T : Tables) (W S : List ℤ) → Sound T W S
@@ -29,8 +29,8 @@ RelationKept =
     → let a = advanceAnswer (byCompiled T S X s) in
     (a .number ≡ acceptedNumber) × Related T W S F (suc n) (pass (programOf T) F n (X .readings) C) (a .state)
 
--- and holds before every tick of a composed run
+-- the relation holds before every tick of a composed run
 abbrev pub RelatedAlways : Type 0
 RelatedAlways =
-    (Y : System) → Accepted Y → (F : Function) (lents : ℕ → Lent) (n : ℕ) → ((k : ℕ) → k < n → Fair Y F lents k)
+    (Y : System) → Accepted Y → (F : Function) (lents : ℕ → Lent) (n : ℕ) → ((k : ℕ) → k < n → SuitedAt Y F lents k)
     → Related (Y .tables) (Y .windows) (joined Y) F n (configurationAt Y F lents n) (stateAt Y lents n)

@@ -1,5 +1,5 @@
 -- A run with results that are a task function of the tasks' inputs: for any readings, times and function. It meets the premises of the
--- composed run, so it is Giotto's (proofs/Supplied.antt). Assumes nothing.
+-- composed run, so it is Giotto's (proofs/Supplied.antt).
 use Prim.Native.Nat.{ℕ, zero, suc}
 use mathlib.Core.Path.{_≡_}
 use mathlib.Core.Bool.{true}
@@ -21,7 +21,7 @@ use Rattle.machine.specs.Advance.{Lent, freshAnswer, ready}
 use Rattle.machine.specs.declared.State.{State}
 use Rattle.demands.specs.Composed.{System, Accepted, joined, code, advanced, Right}
 
--- by port, what the task that runs gives; 0 elsewhere
+-- the results by port: what the task that runs gives for its outputs; 0 elsewhere
 abbrev pub givenBy : Program → Function → State → Who → List ℤ
 givenBy P F u nobody = replicate maxPorts (pos 0)
 givenBy P F u (one t) = puts (takes (results P F (u .ports) t) (task P t .outputs)) (replicate maxPorts (pos 0))
@@ -40,7 +40,7 @@ module _ (Y : System) (F : Function) (readings times : ℕ → List ℤ) where
     times = times n;
   }
 
-  -- the states, and so what is lent to every tick
+  -- the state before tick n (`history`), and so what is lent to every tick
   abbrev pub history : ℕ → State
   history zero = freshAnswer (Y .tables) .state
   history (suc n) = advanced Y (lentTo n (history n)) (history n) .state
@@ -52,7 +52,7 @@ module _ (Y : System) (F : Function) (readings times : ℕ → List ℤ) where
 abbrev pub worstTimes : Program → List ℤ
 worstTimes P = each (λ t. pos (task P t .worst)) maxTasks 0
 
--- So every accepted system runs as Giotto's execution, for any task function, any readings and any times in range
+-- Every accepted system runs as Giotto's execution, for any task function, any readings and any times in range
 abbrev pub SuppliedRight : Type 0
 SuppliedRight =
     (Y : System) → Accepted Y → (F : Function) (readings times : ℕ → List ℤ)

@@ -1,7 +1,7 @@
 -- Demand 3, first half, as statements: a supplier's schedule code is accepted exactly when, in every mode and for every
 -- choice of execution times, it stays in its windows and ends in time; the place; why the worst case decides; the independence
 -- of other suppliers.
--- Proved of these definitions in proofs/Supplier.antt. Assumes nothing.
+-- Proved of these definitions in proofs/Supplier.antt.
 use Prim.Native.Nat.{ℕ, _≤_, _<_}
 use mathlib.Core.Path.{_≡_}
 use mathlib.Core.Bool.{true}
@@ -15,8 +15,8 @@ use Rattle.theory.specs.Verdict.{acceptedNumber, First, Keep}
 use Rattle.cells.specs.Refusals.{shapeRefused, outsideRefused, lateRefused}
 use Rattle.program.specs.Tables.{Tables, modeCount, taskSupplier, taskWorst}
 use Rattle.runs.specs.Tick.{leftOf, Place, runsIn}
-use Rattle.runs.specs.Windows.{windowCount, winSupplier, winMode, winFrom, winTo}
-use Rattle.runs.specs.Round.{Course, Choice, begin, going, Good, WithinWorst, worstCase, Break, outside, late, FirstBreak, nothing}
+use Rattle.runs.specs.Windows.{windowCount, windowSupplier, windowMode, windowFrom, windowTo}
+use Rattle.runs.specs.Round.{Course, Choice, unitStart, going, Good, WithinWorst, worstCase, Break, outside, late, FirstBreak, nothing}
 use Rattle.suppliers.specs.Windows.{windowsVerdict}
 use Rattle.suppliers.specs.Schedule.{lastStatic}
 use Rattle.suppliers.specs.Supplier.{Asked, supplierOf, courseOf, windowedOf, partRules, supplierVerdict}
@@ -29,16 +29,16 @@ pub record BreaksAt (L : Asked) (m : ℕ) (b : Break) : Type 0 where
 
 -- What a supplier's verdict answers, the place included
 pub record SupplierExact (L : Asked) : Type 0 where
-  -- 1 to 13, without a place: the first of these rules that is broken
+  -- the answer is a number of 1 to 13, without a place, exactly where that rule is the first that is broken
   pub refused : (n : ℕ) → shapeRefused ≤ n → n ≤ lastStatic
       → (supplierVerdict L ≡ record { number = n; mode = 0; tick = 0 }) ↔ First partRules L n
-  -- program and windows accepted, the part well-formed: accepted exactly when, in every mode, reached or not, and for every choice of
-  -- an execution time from 1 to the worst case for every release, every tick in which the supplier runs lies in one of its windows
-  -- and every task has ended at each of its termination instants
+  -- where program and windows are accepted and the part is well-formed, it is accepted exactly when, in every mode, reached or not, and
+  -- for every choice of an execution time from 1 to the worst case for every release, every tick in which the supplier runs lies in
+  -- one of its windows and every task has ended at each of its termination instants
   pub accepted : (supplierVerdict L ≡ record { number = acceptedNumber; mode = 0; tick = 0 })
       ↔ (Keep partRules L
       × ((m : ℕ) → m < modeCount (L .tables) → (c : Choice) → WithinWorst (courseOf L m) c → Good (courseOf L m) c nothing))
-  -- 14 and 15 exactly at their place
+  -- the answer is 14 or 15 exactly at its place
   pub outside-at : (m t : ℕ)
       → (supplierVerdict L ≡ record { number = outsideRefused; mode = m; tick = t }) ↔ (Keep partRules L × BreaksAt L m (outside t))
   pub late-at : (m t : ℕ)
@@ -50,20 +50,20 @@ pub record SupplierExact (L : Asked) : Type 0 where
 -- The worst case decides because a shorter run is dominated. Two runs of unit k of a course, of choice c from the remaining times r
 -- and of choice d from q:
 module _ (C : Course) (c d : Choice) (k : ℕ) (r q : List ℕ) where
-  -- after e ticks of the unit
+  -- the place of the shorter run after e ticks of the unit, and that of the longer
   abbrev pub shorter : ℕ → Place
-  shorter e = going (C .block k) (begin C c k r) e
+  shorter e = going (C .block k) (unitStart C c k r) e
 
   abbrev pub longer : ℕ → Place
-  longer e = going (C .block k) (begin C d k q) e
+  longer e = going (C .block k) (unitStart C d k q) e
 
-  -- after every tick the first is at least as far and owes at most as much, and it runs only when the other does
+  -- after every tick the shorter run is at least as far and owes at most as much, and it runs only when the longer does
   pub record DominatedUnit : Type 0 where
     pub further : (e : ℕ) → longer e .position ≤ shorter e .position
     pub owes : (e j : ℕ) → leftOf (shorter e .left) j ≤ leftOf (longer e .left) j
     pub runs-only : (e : ℕ) → runsIn (C .block k) e (shorter e) ≡ true → runsIn (C .block k) e (longer e) ≡ true
 
--- from any remaining times at the unit's start, not only from none
+-- a shorter run of a unit is dominated, from any remaining times at the unit's start, not only from none
 abbrev pub Domination : Type 0
 Domination =
     (C : Course) (c d : Choice) (k : ℕ) (r q : List ℕ)
@@ -88,14 +88,16 @@ pub record SameFor (s : ℕ) (T U : Tables) : Type 0 where
   pub switches : T .switches ≡ U .switches
   pub start : T .start ≡ U .start
 
--- the windows of supplier s, in table order
+-- a window of a supplier; and the windows of supplier s, in table order
 pub record Window : Type 0 where
   pub mode : ℕ
   pub from : ℕ
   pub to : ℕ
 
 abbrev pub ownWindows : List ℤ → ℕ → List Window
-ownWindows W s = those (λ i. eqb (winSupplier W i) s) (λ i. record { mode = winMode W i; from = winFrom W i; to = winTo W i }) (windowCount W) 0
+ownWindows W s =
+    those (λ i. eqb (windowSupplier W i) s) (λ i. record { mode = windowMode W i; from = windowFrom W i; to = windowTo W i })
+    (windowCount W) 0
 
 -- The verdict, place included, is the same when only other suppliers' worst-case times and windows change, both passing 1 to 12
 abbrev pub Independent : Type 0

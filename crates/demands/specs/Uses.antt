@@ -1,5 +1,5 @@
 -- "Readings are used only when E code reads, times only at `schedule`", and results only where a task completes: an advance answers the
--- same when all else that it is lent changes. Proved in proofs/Uses.antt. Assumes nothing.
+-- same when all else that it is lent changes. Proved in proofs/Uses.antt.
 use Prim.Native.Nat.{ℕ, _≤_, _<_}
 use mathlib.Core.Path.{_≡_}
 use mathlib.Core.Bool.{true}
@@ -13,8 +13,8 @@ use Rattle.machine.specs.Advance.{Lent, Advance, advanceAnswer}
 use Rattle.machine.specs.Comes.{Static, program}
 use Rattle.machine.specs.Uses.{lending, SameLengths, Agrees}
 
--- the answer hangs on no more of what is lent than the lengths, the readings that E code takes, the times of the tasks that it comes to
--- release, and the results of the task that completes
+-- an advance's answer hangs on no more of what is lent than the lengths, the readings that E code takes, the times of the tasks that it
+-- comes to release, and the results of the task that completes
 abbrev pub UsedOnly : Type 0
 UsedOnly = (L : Advance) (X : Lent) → Agrees L X → advanceAnswer L ≡ advanceAnswer (lending L X)
 
@@ -36,7 +36,7 @@ SensorsOnly =
     → ((p : ℕ) → member p (program L .sensors) ≡ true → valueOf (L .lent .readings) p ≡ valueOf readings p)
     → advanceAnswer L ≡ advanceAnswer (otherwise L readings (L .lent .times))
 
--- and only the times of declared tasks
+-- in any tick, only the times of declared tasks matter
 abbrev pub TasksOnly : Type 0
 TasksOnly =
     (L : Advance) (times : List ℤ) → length (L .lent .times) ≡ length times

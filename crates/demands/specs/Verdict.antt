@@ -1,12 +1,12 @@
 -- Demand 2, as statements: a program is accepted exactly when it meets the published rules of Giotto, as bounded in document
 -- 01; the E code is the one listing; a missing reading lies in no interval but its own.
--- Proved of these definitions in proofs/Verdict.antt. Assumes nothing.
+-- Proved of these definitions in proofs/Verdict.antt.
 use Prim.Native.Nat.{ℕ, _*_, _≤_, _<_}
 use mathlib.Core.Path.{_≡_}
 use mathlib.Core.Logic.{_↔_}
 use lib.ListN.{length, drop}
 use Rattle.theory.specs.Verdict.{acceptedNumber, First, Keep}
-use Rattle.cells.specs.Reading.{noReading, Inside}
+use Rattle.readings.specs.Reading.{noReading, Inside}
 use Rattle.cells.specs.Limits.{maxCode, wordsEach}
 use Rattle.program.specs.Tables.{Tables, driverCount, guardKind, guardLow, guardHigh, kindInterval}
 use Rattle.program.specs.Program.{programOf}
@@ -28,7 +28,7 @@ MissingReading =
     (T : Tables) → programVerdict T ≡ acceptedNumber → (d : ℕ) → d < driverCount T → guardKind T d ≡ kindInterval
     → Inside (guardLow T d) noReading (guardHigh T d) → (guardLow T d ≡ noReading) × (guardHigh T d ≡ noReading)
 
--- compiling, not refused: the length is 01's rule, the words written are those of the listing, the rest of the slice is as before
+-- what compiling that is not refused does: the length is 01's rule, the words are those of the listing, the rest of the slice is as before
 pub record Compiles (L : Compiling) : Type 0 where
   pub length-rule : compileAnswer L .length ≡ lengthRule (programOf (L .tables))
   pub few : compileAnswer L .length ≤ maxCode
@@ -39,7 +39,7 @@ pub record Compiles (L : Compiling) : Type 0 where
 abbrev pub ListingWritten : Type 0
 ListingWritten = (L : Compiling) → compileAnswer L .number ≡ acceptedNumber → Compiles L
 
--- refused: nothing is written, and the length is 0
+-- compiling that is refused writes nothing, and its length is 0
 abbrev pub RefusalKeeps : Type 0
 RefusalKeeps =
     (L : Compiling) → (compileAnswer L .number ≡ acceptedNumber → ⊥) → (compileSlice L ≡ L .slice) × (compileAnswer L .length ≡ 0)

@@ -34,18 +34,18 @@ module _ (T : Tables) where
       (λ h. let w = r .0 h in (w .0, w .1, sym (w .2)))
       (λ w. r .1 (w .0, w .1, sym (w .2)))
 
-  -- after step 8
+  -- the active tasks after step 8: those that were active and are not completed, and those that are enabled
   pub active-next : (C : Configuration) (m k t : ℕ) → C .mode < modeCount T → m < modeCount T
       → (((C .active t && not (member t (completed (programOf T) C))) || member t (dueTasks (mode (programOf T) m) k)) ≡ true)
       ↔ (((C .active t ≡ true) × (Completed T C t → ⊥)) ⊎ Enabled T m k t)
   active-next C m k t c l = let s = says-or (says-and (says-itself (C .active t)) (says-not (completed-says C t c))) (enabled-says m k t l) in (s .yes, is-true s)
 
-  -- the time stamp moves by one unit of the mode
+  -- the time stamp after step 9 is one unit of the mode later
   pub time-next : (C : Configuration) (m : ℕ) → m < modeCount T
       → C .time + ticksOf (mode (programOf T) m) ≡ C .time + modePeriod T m / units T m
   time-next C m l = ap (λ (M : Mode). C .time + ticksOf M) (mode-row T m l)
 
-  -- the unit after the one entered, around the round
+  -- the unit after step 9 is the next of its mode, around the round
   pub unit-next : (m k : ℕ) → m < modeCount T → k < units T m → nextUnit (mode (programOf T) m) k ≡ suc k % units T m
   unit-next m k l h =
       subst (λ (M : Mode). nextUnit M k ≡ suc k % units T m) (sym (mode-row T m l)) (next-around (modeRow T m) k h)

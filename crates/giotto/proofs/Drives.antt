@@ -26,7 +26,7 @@ use Rattle.giotto.specs.Successor.{Valuation, Drives}
 use Rattle.giotto.proofs.Steps.{same-row}
 
 module _ (T : Tables) where
-  -- a driver that moves writes what it drives
+  -- the copies of a driver of the tables write what it drives
   wrote-copies : (v : List ℤ) (d p : ℕ) (x : ℤ)
       → Wrote (copyPuts v (driverRow T d)) p x ↔ Drives T d (valueOf v) p x
   wrote-copies v d p x =
@@ -36,7 +36,7 @@ module _ (T : Tables) where
         λ w. s .1 (r .1 (w .0, w .1, w .2, (w .3, w .4))),
       )
 
-  -- a driver writes what it drives, where its guard holds, and else nothing
+  -- a driver of the tables writes what it drives where its guard holds, and else nothing
   wrote-moves : (v : List ℤ) (d p : ℕ) (x : ℤ)
       → Wrote (moves v (driverRow T d)) p x ↔ ((holds (guardOf T d) (valueOf v) ≡ true) × Drives T d (valueOf v) p x)
   wrote-moves v d p x = go (holds (guardOf T d) (valueOf v)) refl
@@ -47,21 +47,21 @@ module _ (T : Tables) where
       go true e = let r = wrote-copies v d p x in (λ h. (e, r .0 h), λ w. r .1 (w .1))
       go false e = (λ h. absurd h, λ w. clash (w .0) e)
 
-  -- the same of the program's driver of a declared number
+  -- the program's driver of a declared number writes what it drives where its guard holds, and else nothing
   pub wrote-driver : (v : List ℤ) (d p : ℕ) (x : ℤ) → d < driverCount T
       → Wrote (moves v (driver (programOf T) d)) p x ↔ ((holds (guardOf T d) (valueOf v) ≡ true) × Drives T d (valueOf v) p x)
   wrote-driver v d p x l = rw (driver-row T d l) (wrote-moves v d p x)
 
   module _ (d p : ℕ) (v : Valuation) where
-    -- what is driven is a destination
+    -- what a driver drives is a destination of it
     drives-to : (x : ℤ) → Drives T d v p x → Destination T d p
     drives-to x w = (w .0, w .1, (w .2, w .3))
 
-    -- inside the ports
+    -- what a driver drives lies inside the ports
     drives-inside : Shaped T → Fields T → (x : ℤ) → Drives T d v p x → p < maxPorts
     drives-inside s f x w = omega (arith, ports-few T s, f .copies (w .0) (w .1) .destination, w .3)
 
-    -- one value for a destination
+    -- a driver drives one value to a destination
     drives-one : Copies T → (x y : ℤ) → Drives T d v p x → Drives T d v p y → x ≡ y
     drives-one k x y a b = a .4 ∙ ap (λ c. v (copySource T c)) e ∙ sym (b .4)
       where
@@ -71,7 +71,7 @@ module _ (T : Tables) where
             (λ l. k (a .0) (b .0) l (b .1) (a .2 ∙ sym (b .2)) (a .3 ∙ sym (b .3)))
             (λ l. k (b .0) (a .0) l (a .1) (b .2 ∙ sym (a .2)) (b .3 ∙ sym (a .3)))
 
-  -- a driver whose guard holds: its moves are what it drives
+  -- the moves of a driver whose guard holds are assignments of what it drives
   pub moves-assign : Shaped T → Fields T → Copies T → (v : List ℤ) (d : ℕ) → d < driverCount T → holds (guardOf T d) (valueOf v) ≡ true
       → Assigns (Drives T d (valueOf v)) (moves v (driver (programOf T) d)) maxPorts
   moves-assign s f k v d l g =
@@ -81,7 +81,7 @@ module _ (T : Tables) where
         inside = λ p x. drives-inside d p (valueOf v) s f x;
       }
 
-  -- rows whose drivers write, no two of them to one port: assignments of what they drive
+  -- where no two rows drive one port, the writes of their drivers are assignments of what they drive
   pub rows-assign : {Row : ℕ → Type 0} (driverOf : ℕ → ℕ) (l : List Put) (v : Valuation) → Shaped T → Fields T → Copies T
       → ((p : ℕ) (x : ℤ) → Wrote l p x ↔ ((i : ℕ) × Row i × Drives T (driverOf i) v p x))
       → ((i j p : ℕ) → Row i → Row j → Destination T (driverOf i) p → Destination T (driverOf j) p → i ≡ j)

@@ -26,28 +26,29 @@ use Rattle.giotto.proofs.Outputs.{enabled-one}
 use Rattle.giotto.proofs.Switching.{taken-row}
 
 module _ (T : Tables) where
-  -- a port of this kind among those of a task is declared so
+  -- a port that stands among those of a task and a kind is of that kind and of the task
   port-of : (kind t p : ℕ) → member p (portsOf T kind t) ≡ true → OfKind T kind p × TaskPort T t p
   port-of kind t p m =
       let (k, l, (e, q), s) = has-ports T (λ x. p ≡ x) kind t .0 (member-says p (portsOf T kind t) .yes m) in
       (subst (OfKind T kind) (sym s) q, (k, l, (e, sym s)))
 
-  -- an output of a declared task, and an input
+  -- a member of the outputs of a declared task is an output of it
   pub output-of : (t p : ℕ) → t < taskCount T → member p (task (programOf T) t .outputs) ≡ true → Output T t p
   output-of t p l m = port-of output t p (subst (λ K. member p (K .outputs) ≡ true) (task-row T t l) m)
 
+  -- a member of the inputs of a declared task is an input of it
   pub input-of : (t p : ℕ) → t < taskCount T → member p (task (programOf T) t .inputs) ≡ true → Input T t p
   input-of t p l m = port-of input t p (subst (λ K. member p (K .inputs) ≡ true) (task-row T t l) m)
 
 module _ (T : Tables) (a : programVerdict T ≡ acceptedNumber) where
-  -- a task that is due is one of the mode's tasks
+  -- a task that is due at a unit of a mode is one of the mode's tasks
   pub due-of-mode : (m k t : ℕ) → m < modeCount T → member t (dueTasks (mode (programOf T) m) k) ≡ true
       → member t (dueTasks (mode (programOf T) m) 0) ≡ true
   due-of-mode m k t l e =
       let (i, d, q) = enabled-says T m k t l .yes e in
       is-true (enabled-says T m 0 t l) (i, record { in-table = d .in-table; of-mode = d .of-mode; is-due = due-first (units T m) (invocationFrequency T i) }, q)
 
-  -- tasks of a mode that share an output are one
+  -- two tasks of a mode that share an output are one
   pub tasks-one : (m t u p : ℕ) → m < modeCount T
       → member t (dueTasks (mode (programOf T) m) 0) ≡ true → member u (dueTasks (mode (programOf T) m) 0) ≡ true
       → member p (task (programOf T) t .outputs) ≡ true → member p (task (programOf T) u .outputs) ≡ true → t ≡ u
@@ -55,7 +56,7 @@ module _ (T : Tables) (a : programVerdict T ≡ acceptedNumber) where
       enabled-one T (accepted-invocations T a) m 0 t u p (enabled-says T m 0 t l .yes x) (enabled-says T m 0 u l .yes y)
       (output-of T t p (due-declared T a m 0 t l x) o) (output-of T u p (due-declared T a m 0 u l y) q)
 
-  -- where a switch is taken every task of the mode is due: rule 10
+  -- rule 10: where a switch is taken, every task of the mode is due
   pub switch-all : (m k t : ℕ) (v : List ℤ) (w : Switch) → m < modeCount T
       → taken (programOf T) v (dueSwitches (mode (programOf T) m) k) ≡ some w
       → member t (dueTasks (mode (programOf T) m) 0) ≡ true → member t (dueTasks (mode (programOf T) m) k) ≡ true

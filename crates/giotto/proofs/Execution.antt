@@ -39,36 +39,38 @@ instant-ports P result readings C = go (switchOf P C (sensed P result readings C
     go (some w) = simp puts-length
 
 module _ (P : Program) (F : Function) (n : ℕ) (readings : List ℤ) (C : Configuration) where
-  -- at its time stamp a configuration goes on to the next, and releases tasks
+  -- at its time stamp a configuration goes on to what its instant leaves
   pub pass-goes : C .time ≡ n → pass P F n readings C ≡ instant P (results P F (C .ports)) readings C
   pass-goes e = rw (eq-eqb (C .time) n e, pass)
 
+  -- at its time stamp a configuration releases the tasks that its instant releases
   pub releases-then : C .time ≡ n → releasedBy P F n readings C ≡ released P (results P F (C .ports)) readings C
   releases-then e = rw (eq-eqb (C .time) n e, releasedBy)
 
-  -- at any other tick it stays
+  -- at a tick that is not its time stamp a configuration stays
   pub pass-stays : (C .time ≡ n → ⊥) → pass P F n readings C ≡ C
   pass-stays d = rw (ne-eqb (C .time) n d, pass)
 
--- all ports are there, the mode is declared, and the unit is one of its
+-- a configuration has all ports, a declared mode, and one of the mode's units
 pub record Proper (T : Tables) (C : Configuration) : Type 0 where
   pub ports : length (C .ports) ≡ maxPorts
   pub mode : C .mode < modeCount T
   pub unit : C .unit < units T (C .mode)
 
 module _ (T : Tables) (K : Keep programRules T) (F : Function) (readings : ℕ → List ℤ) where
-  -- before tick n
+  -- the configuration of the execution before tick n
   abbrev at : ℕ → Configuration
   at n = execution (programOf T) F readings n
 
-  -- the tasks' results, and the instant, if there is one in tick n
+  -- what the tasks give in tick n, if there is an instant in it
   abbrev gives : ℕ → ℕ → ℕ → ℤ
   gives n = results (programOf T) F (at n .ports)
 
+  -- what the instant leaves in tick n, if there is one in it
   abbrev next : ℕ → Configuration
   next n = instant (programOf T) (gives n) (readings n) (at n)
 
-  -- it is the successor configuration
+  -- what the instant leaves in tick n is the successor configuration
   succeeds : (n : ℕ) → Proper T (at n) → Successor T (gives n) (valueOf (readings n)) (at n) (next n)
   succeeds n s = instant-succeeds T K (gives n) (readings n) (at n) (s .ports) (s .mode) (s .unit)
 
@@ -86,16 +88,16 @@ module _ (T : Tables) (K : Keep programRules T) (F : Function) (readings : ℕ �
           }
       go false s = s
 
-  -- at a time stamp it goes on to the successor configuration
+  -- at a time stamp an execution goes on to the successor configuration
   pub execution-succeeds : (n : ℕ) → at n .time ≡ n → Successor T (gives n) (valueOf (readings n)) (at n) (at (suc n))
   execution-succeeds n e =
       subst (Successor T (gives n) (valueOf (readings n)) (at n)) (sym (pass-goes (programOf T) F n (readings n) (at n) e)) (succeeds n (execution-keeps n))
 
-  -- at any other tick nothing changes
+  -- at a tick that is no time stamp nothing changes in an execution
   pub execution-waits : (n : ℕ) → (at n .time ≡ n → ⊥) → at (suc n) ≡ at n
   execution-waits n d = pass-stays (programOf T) F n (readings n) (at n) d
 
-  -- the next time stamp is never past: so none is missed
+  -- the next time stamp of an execution is never past: so none is missed
   pub time-ahead : (n : ℕ) → n ≤ at n .time
   time-ahead zero = omega arith
   time-ahead (suc n) = go (ℕ-discrete (at n .time) n) (time-ahead n)

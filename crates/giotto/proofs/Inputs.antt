@@ -40,7 +40,7 @@ module _ (T : Tables) (m k : ℕ) where
       (λ l. n .tasks-apart j i l (b .in-table) (a .of-mode ∙ sym (b .of-mode)) e)
       (λ l. n .tasks-apart i j l (a .in-table) (b .of-mode ∙ sym (a .of-mode)) (sym e))
 
-  -- the assignments are the writes
+  -- the assignments of step 7 are its writes
   inputs-wrote : Fields T → Invocations T → m < modeCount T → (v : List ℤ) (p : ℕ) (x : ℤ) → Wrote (inputPuts v) p x ↔ InputWrites T m k (valueOf v) p x
   inputs-wrote f n l v p x =
       let s = wrote-all v (λ (r : Invocation). driver (programOf T) (r .driver)) (dueInvocations (mode (programOf T) m) k) p x in
@@ -56,7 +56,7 @@ module _ (T : Tables) (m k : ℕ) where
         )),
       )
 
-  -- after step 7
+  -- the assignments of step 7 leave the next values that 001 asks for
   pub inputs-next : Shaped T → Fields T → TaskPorts T → Copies T → Invocations T → m < modeCount T → (v : List ℤ) → length v ≡ maxPorts
       → Next (InputWrites T m k (valueOf v)) (valueOf v) (valueOf (afterDrivers (programOf T) (mode (programOf T) m) k v))
   inputs-next s f t c n l v e =

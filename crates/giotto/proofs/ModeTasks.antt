@@ -26,11 +26,11 @@ module _ (T : Tables) (a : programVerdict T ≡ acceptedNumber) where
   abbrev P : Program
   P = programOf T
 
-  -- the active tasks are tasks of the mode, which are those due at its unit 0
+  -- the active tasks of a configuration are tasks of its mode, which are those due at its unit 0
   abbrev OfMode : Configuration → Type 0
   OfMode C = (t : ℕ) → C .active t ≡ true → member t (dueTasks (mode P (C .mode)) 0) ≡ true
 
-  -- so they are after an instant: where a switch is taken, every active task is completed
+  -- after an instant the active tasks are the mode's, since every active task is completed where a switch is taken
   instant-of-mode : (result : ℕ → ℕ → ℤ) (readings : List ℤ) (C : Configuration) → C .mode < modeCount T → OfMode C
       → OfMode (instant P result readings C)
   instant-of-mode result readings C m h t = go (switchOf P C v) refl
@@ -58,7 +58,7 @@ module _ (T : Tables) (a : programVerdict T ≡ acceptedNumber) where
               ∙ is-true (says-and (says-itself (C .active t)) (says-itself (member t due))) (b, switch-all T a (C .mode) (C .unit) t v w m e (h t b))))
 
   module _ (F : Function) (readings : ℕ → List ℤ) where
-    -- before tick n
+    -- the configuration of the execution before tick n
     abbrev at : ℕ → Configuration
     at n = execution P F readings n
 
@@ -74,12 +74,12 @@ module _ (T : Tables) (a : programVerdict T ≡ acceptedNumber) where
         go true h = instant-of-mode (results P F (at n .ports)) (readings n) (at n) (execution-mode T (accepted-fields T a) F readings n) h
         go false h = h
 
-    -- an active task is declared
+    -- an active task of an execution is declared
     pub active-declared : (n t : ℕ) → execution P F readings n .active t ≡ true → t < taskCount T
     active-declared n t e =
         due-declared T a (at n .mode) 0 t (execution-mode T (accepted-fields T a) F readings n) (active-of-mode n t e)
 
-    -- active tasks that share an output are one
+    -- two active tasks of an execution that share an output are one
     pub active-one : (n t u p : ℕ) → execution P F readings n .active t ≡ true → execution P F readings n .active u ≡ true
         → member p (task P t .outputs) ≡ true → member p (task P u .outputs) ≡ true → t ≡ u
     active-one n t u p x y =

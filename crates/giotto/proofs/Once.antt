@@ -18,18 +18,18 @@ use Rattle.program.proofs.Decoded.{due-task-rows}
 use Rattle.rules.specs.Verdict.{programVerdict}
 use Rattle.rules.proofs.Accepted.{accepted-invocations}
 
--- no number of the list comes again after it
+-- no number of a list comes again after it
 abbrev pub Distinct : List ℕ → Type 0
 Distinct [] = Unit {0}
 Distinct (x ∷ xs) = (member x xs ≡ false) × Distinct xs
 
--- what each of a list is not, no element of it is
+-- a number that every element of a list differs from is no element of it
 every-other : (n : ℕ) (xs : List ℕ) → Every (λ x. n ≡ x → ⊥) xs → Has (λ x. n ≡ x) xs → ⊥
 every-other n [] h m = m
 every-other n (x ∷ xs) h (inl e) = h .0 e
 every-other n (x ∷ xs) h (inr m) = every-other n xs (h .1) m
 
--- rows that pass, no two of which have one number, have distinct numbers
+-- rows that pass, of which no two have one number, have distinct numbers
 those-once : (p : ℕ → Bool) (row : ℕ → ℕ) (n i₀ : ℕ)
     → ((i j : ℕ) → i < j → j < i₀ + n → p i ≡ true → p j ≡ true → row i ≡ row j → ⊥) → Distinct (those p row n i₀)
 those-once p row zero i₀ h = tt
@@ -45,7 +45,7 @@ those-once p row (suc n) i₀ h = go (p i₀) refl (those-once p row n (i₀ + 1
     )
     go false e d = d
 
--- a due row is one of its mode
+-- an invocation row that is due in a mode is one of the mode
 of-mode : (T : Tables) (m k i : ℕ) → rowDue invocationWidth (T .invocations) m (units T m) k i ≡ true → invocationMode T i ≡ m
 unfolding rowDue
 of-mode T m k i e = (says-eq (invocationMode T i) m and says-itself (due (units T m) (invocationFrequency T i) k)) .yes e .0

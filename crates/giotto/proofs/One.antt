@@ -23,7 +23,8 @@ use Rattle.rules.specs.Modes.{Switches}
 use Rattle.rules.specs.Verdict.{programRules}
 use Rattle.rules.proofs.Modes.{guard-sound}
 use Rattle.giotto.specs.Instant.{Configuration, instant}
-use Rattle.giotto.specs.Successor.{Valuation, Next, Drives, SwitchEnabled, Completed, Enabled, UpdateWrites, SensorWrites, InputWrites, Stays, Changes, Successor, Same}
+use Rattle.giotto.specs.Successor.{Valuation, Next, Drives, SwitchEnabled, Completed, Enabled, UpdateWrites, SensorWrites}
+use Rattle.giotto.specs.Successor.{InputWrites, Stays, Changes, Successor, Same}
 use Rattle.giotto.proofs.Steps.{same-row}
 use Rattle.giotto.proofs.Succeeds.{instant-succeeds}
 
@@ -39,11 +40,11 @@ next-one {Writes} {w} {w′} n n′ = fun-ext (λ p. go p (eqZ (w p) (w′ p)) r
         absurd (apart (n .kept p none ∙ sym (n′ .kept p none)))
 
 module _ (T : Tables) (f : Fields T) (s : Switches T) (C : Configuration) where
-  -- the guard of an enabled switch is one of values
+  -- the guard of an enabled switch is no empty interval
   sound : (v : Valuation) (i : ℕ) → SwitchEnabled T (C .mode) (C .unit) v i → Sound (guardOf T (switchDriver T i))
   sound v i a = guard-sound T f (switchDriver T i) (f .switches i (a .in-table) .driver)
 
-  -- two enabled switches are one row
+  -- two enabled switches of one configuration are one row
   switch-row : (v : Valuation) (i j : ℕ) → SwitchEnabled T (C .mode) (C .unit) v i → SwitchEnabled T (C .mode) (C .unit) v j → i ≡ j
   switch-row v i j a b =
       same-row i j
@@ -88,7 +89,7 @@ module _ (T : Tables) (f : Fields T) (s : Switches T) (C : Configuration) where
     abbrev Active : ℕ → ℕ → ℕ → Type 0
     Active m u t = ((C .active t ≡ true) × (Completed T C t → ⊥)) ⊎ Enabled T m u t
 
-    -- two successors agree
+    -- two successors of one configuration agree
     same : Same C′ C″
     same =
         record {

@@ -43,7 +43,7 @@ enabled-one T v m k t u p a b o q = sym (a .2) ∙ ap (invocationTask T) rows �
         (λ l. v .outputs-apart (a .0) (b .0) p l (a .1 .in-table) (b .1 .of-mode ∙ sym (a .1 .of-mode)) of-a of-b)
 
 module _ (T : Tables) (C : Configuration) where
-  -- some completed task
+  -- some completed task has a property: in the list of the program, and in 001's words
   pub has-completed : C .mode < modeCount T → (Q : ℕ → Type 0)
       → Has Q (completed (programOf T) C) ↔ ((t : ℕ) × Completed T C t × Q t)
   has-completed m Q =
@@ -66,7 +66,7 @@ module _ (T : Tables) (result : ℕ → ℕ → ℤ) where
   abbrev taskPuts : Configuration → List Put
   taskPuts C = gather (λ t. takes (result t) (task (programOf T) t .outputs)) (completed (programOf T) C)
 
-  -- a task writes its outputs
+  -- a task of the tables writes what it gives to its outputs
   writes-row : (t p : ℕ) (x : ℤ) → Wrote (takes (result t) (taskRow T t .outputs)) p x ↔ (Output T t p × (x ≡ result t p))
   writes-row t p x =
       let s = wrote-takes (result t) (taskRow T t .outputs) p x in
@@ -82,13 +82,13 @@ module _ (T : Tables) (result : ℕ → ℕ → ℤ) where
         )),
       )
 
-  -- so does the program's task of a declared number
+  -- the program's task of a declared number writes what it gives to its outputs
   writes-task : (t p : ℕ) (x : ℤ) → t < taskCount T
       → Wrote (takes (result t) (task (programOf T) t .outputs)) p x ↔ (Output T t p × (x ≡ result t p))
   writes-task t p x l = rw (task-row T t l) (writes-row t p x)
 
   module _ (C : Configuration) (s : Shaped T) (f : Fields T) (v : Invocations T) (m : C .mode < modeCount T) where
-    -- the assignments are the writes
+    -- the assignments of step 1 are its writes
     tasks-wrote : (p : ℕ) (x : ℤ)
         → Wrote (taskPuts C) p x ↔ TaskWrites T result C p x
     tasks-wrote p x =
@@ -101,7 +101,7 @@ module _ (T : Tables) (result : ℕ → ℕ → ℤ) where
           λ w. g .1 (c .1 (w .0, w .1, writes-task (w .0) p x (completed-declared T C f (w .0) (w .1)) .1 (w .2, w .3))),
         )
 
-    -- one value for a port
+    -- step 1 writes one value to a port
     tasks-one : (p : ℕ) (x y : ℤ) → TaskWrites T result C p x → TaskWrites T result C p y → x ≡ y
     tasks-one p x y a b = a .3 ∙ ap (λ t. result t p) (completed-one T C v (a .0) (b .0) p (a .1) (b .1) (a .2) (b .2)) ∙ sym (b .3)
 
@@ -113,6 +113,6 @@ module _ (T : Tables) (result : ℕ → ℕ → ℤ) where
           inside = λ p x w. omega (arith, ports-few T s, w .2 .0 .0);
         }
 
-    -- after step 1
+    -- the assignments of step 1 leave the next values that 001 asks for
     pub outputs-next : length (C .ports) ≡ maxPorts → Next (TaskWrites T result C) (valueOf (C .ports)) (valueOf (afterTasks (programOf T) result C))
     outputs-next e = next-puts (C .ports) e tasks-assign

@@ -23,7 +23,7 @@ module _ (T : Tables) (f : Fields T) where
     pub instant-mode : instant (programOf T) result readings C .mode < modeCount T
     instant-mode = let v = sensed (programOf T) result readings C in entered T C v f m (switchOf (programOf T) C v) refl
 
-    -- and releases declared tasks
+    -- an instant releases declared tasks
     pub instant-releases : (t : ℕ) → member t (released (programOf T) result readings C) ≡ true → t < taskCount T
     instant-releases t e =
         let s = switchOf (programOf T) C (sensed (programOf T) result readings C) in
@@ -32,7 +32,7 @@ module _ (T : Tables) (f : Fields T) where
         rw q (f .invocations i l .task)
 
   module _ (F : Function) (readings : ℕ → List ℤ) where
-    -- before tick n
+    -- the configuration of the execution before tick n
     abbrev at : ℕ → Configuration
     at n = execution (programOf T) F readings n
 

@@ -23,7 +23,8 @@ use Rattle.rules.specs.Fields.{Fields}
 use Rattle.rules.specs.Declared.{TaskPorts, Copies}
 use Rattle.rules.specs.Modes.{Invocations, Updates}
 use Rattle.rules.specs.Verdict.{programVerdict}
-use Rattle.rules.proofs.Accepted.{accepted-shaped, accepted-fields, accepted-task-ports, accepted-copies, accepted-invocations, accepted-updates}
+use Rattle.rules.proofs.Accepted.{accepted-shaped, accepted-fields, accepted-task-ports, accepted-copies, accepted-invocations}
+use Rattle.rules.proofs.Accepted.{accepted-updates}
 use Rattle.giotto.specs.Instant.{Configuration, afterTasks, afterUpdates, sensed, afterDrivers}
 use Rattle.giotto.proofs.Outputs.{outputs-next}
 use Rattle.giotto.proofs.Updates.{updates-next, sensors-next}
@@ -37,7 +38,7 @@ module _ (T : Tables) (a : programVerdict T ≡ acceptedNumber) (result : ℕ �
   abbrev stayed : List ℤ
   stayed = afterDrivers (programOf T) (mode (programOf T) (C .mode)) (C .unit) (sensed (programOf T) result readings C)
 
-  -- an input of a task that is not due is as it was
+  -- an input of a task that is not due is as it was, after an instant without a switch
   input-stays : (t p : ℕ) → member t (dueTasks (mode (programOf T) (C .mode)) (C .unit)) ≡ false → Input T t p
       → valueOf stayed p ≡ valueOf (C .ports) p
   input-stays t p n i =
@@ -80,7 +81,7 @@ module _ (T : Tables) (a : programVerdict T ≡ acceptedNumber) (result : ℕ �
       v₃ : List ℤ
       v₃ = sensed (programOf T) result readings C
 
-  -- so are all of them
+  -- all inputs of a task that is not due are as they were, after an instant without a switch
   pub inputs-stay : (t : ℕ) → t < taskCount T → member t (dueTasks (mode (programOf T) (C .mode)) (C .unit)) ≡ false
       → valuesOf stayed (task (programOf T) t .inputs) ≡ valuesOf (C .ports) (task (programOf T) t .inputs)
   inputs-stay t l n =

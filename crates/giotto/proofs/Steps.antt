@@ -20,24 +20,24 @@ use Rattle.giotto.specs.Successor.{Next, InvocationDue}
 pub same-row : (i j : ℕ) → (i < j → ⊥) → (j < i → ⊥) → i ≡ j
 same-row i j a b = omega arith
 
--- the assignments make the next values
+-- assignments of what is to be written make the next values
 pub next-puts : {Writes : ℕ → ℤ → Type 0} {l : List Put} {n : ℕ} (v : List ℤ) → length v ≡ n → Assigns Writes l n → Next Writes (valueOf v) (valueOf (puts l v))
 next-puts v e a = record { written = puts-written (pos 0) v a e; kept = puts-kept (pos 0) v a }
 
 module _ (T : Tables) (m k : ℕ) where
-  -- a due row of the invocations, in 001's words
+  -- a due row of the invocations, in the tables' words and in 001's
   as-due : (Q : ℕ → Type 0) → DueRow T (invocationCount T) (invocationMode T) (invocationFrequency T) m k Q ↔ ((i : ℕ) × InvocationDue T m k i × Q i)
   as-due Q = (
     λ w. (w .0, record { in-table = w .1; of-mode = w .2; is-due = w .3 }, w .4),
     λ w. (w .0, w .1 .in-table, w .1 .of-mode, w .1 .is-due, w .2),
   )
 
-  -- some invocation of a mode that is due
+  -- some due invocation of a declared mode has a property: in the list of the program, and in 001's words
   pub due-invocations : m < modeCount T → (Q : Invocation → Type 0)
       → Has Q (dueInvocations (mode (programOf T) m) k) ↔ ((i : ℕ) × InvocationDue T m k i × Q (invocationRow T i))
   due-invocations l Q = Iff·trans (has-invocations T m k l Q) (as-due (λ i. Q (invocationRow T i)))
 
-  -- some task of a mode that is due
+  -- some due task of a declared mode has a property: in the list of the program, and in 001's words
   pub due-tasks : m < modeCount T → (Q : ℕ → Type 0)
       → Has Q (dueTasks (mode (programOf T) m) k) ↔ ((i : ℕ) × InvocationDue T m k i × Q (invocationTask T i))
   due-tasks l Q = Iff·trans (has-tasks T m k l Q) (as-due (λ i. Q (invocationTask T i)))

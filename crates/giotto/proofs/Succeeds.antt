@@ -20,7 +20,8 @@ use Rattle.rules.specs.Fields.{Fields}
 use Rattle.rules.specs.Declared.{TaskPorts, Copies}
 use Rattle.rules.specs.Modes.{Invocations, Updates}
 use Rattle.rules.specs.Verdict.{programRules}
-use Rattle.giotto.specs.Instant.{Configuration, afterTasks, afterUpdates, sensed, switchOf, modeAfter, unitAfter, afterSwitch, enter, instant}
+use Rattle.giotto.specs.Instant.{Configuration, afterTasks, afterUpdates, sensed, switchOf, modeAfter, unitAfter, afterSwitch}
+use Rattle.giotto.specs.Instant.{enter, instant}
 use Rattle.giotto.specs.Successor.{Stays, Changes, Successor}
 use Rattle.giotto.proofs.Outputs.{outputs-next}
 use Rattle.giotto.proofs.Updates.{updates-next, sensors-next}
@@ -48,13 +49,15 @@ module _ (T : Tables) (K : Keep programRules T) (result : ℕ → ℕ → ℤ) (
   updates : Updates T
   updates = K .1 .1 .1 .1 .1 .1 .0
 
-  -- the values after steps 1, 2 and 3
+  -- the values after step 1
   abbrev v₁ : List ℤ
   v₁ = afterTasks (programOf T) result C
 
+  -- the values after step 2
   abbrev v₂ : List ℤ
   v₂ = afterUpdates (programOf T) (mode (programOf T) (C .mode)) (C .unit) v₁
 
+  -- the values after step 3
   abbrev v₃ : List ℤ
   v₃ = sensed (programOf T) result readings C
 
@@ -67,7 +70,7 @@ module _ (T : Tables) (K : Keep programRules T) (result : ℕ → ℕ → ℤ) (
   all₃ : length v₃ ≡ maxPorts
   all₃ = simp puts-length all
 
-  -- with steps 4 to 6 given
+  -- the instant succeeds where steps 4 to 6 do, with the switch that is taken, or none
   with-switch : (s : Option Switch) → length (afterSwitch (programOf T) s v₃) ≡ maxPorts
       → modeAfter (C .mode) s < modeCount T
       → unitAfter (C .unit) s < units T (modeAfter (C .mode) s)
@@ -93,7 +96,7 @@ module _ (T : Tables) (K : Keep programRules T) (result : ℕ → ℕ → ℤ) (
         next-unit = unit-next T m′ u′ d k;
       }
 
-  -- the switch that is taken, or none
+  -- the instant succeeds with the switch that is taken, or none
   by-switch : (s : Option Switch) → switchOf (programOf T) C v₃ ≡ s → Successor T result (valueOf readings) C (enter (programOf T) C s v₃)
   by-switch none e = with-switch none all₃ m u (inl (stays T C v₃ fields m e))
   by-switch (some w) e =
@@ -101,7 +104,7 @@ module _ (T : Tables) (K : Keep programRules T) (result : ℕ → ℕ → ℤ) (
       with-switch (some w) (simp puts-length all) (target-declared T C v₃ fields m w t) (units-some T (w .target))
       (inr (switches T C v₃ fields m shaped copies all₃ w t))
 
--- the instant is the successor configuration
+-- the executable instant is the successor configuration
 pub instant-succeeds : (T : Tables) → Keep programRules T → (result : ℕ → ℕ → ℤ) (readings : List ℤ) (C : Configuration)
     → length (C .ports) ≡ maxPorts → C .mode < modeCount T → C .unit < units T (C .mode)
     → Successor T result (valueOf readings) C (instant (programOf T) result readings C)

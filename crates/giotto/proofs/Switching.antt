@@ -26,11 +26,11 @@ use Rattle.giotto.proofs.Steps.{next-puts}
 use Rattle.giotto.proofs.Drives.{moves-assign}
 
 module _ (P : Program) (v : List ℤ) where
-  -- the switch's guard holds
+  -- the guard of a switch holds at the values v
   abbrev pub Open : Switch → Type 0
   Open w = holds (driver P (w .driver) .guard) (valueOf v) ≡ true
 
-  -- none is taken: no guard holds
+  -- where no switch of a list is taken, no guard of it holds
   pub taken-none : (ws : List Switch) → taken P v ws ≡ none → Has Open ws → ⊥
   taken-none [] e h = h
   taken-none (w ∷ ws) e h = go (holds (driver P (w .driver) .guard) (valueOf v)) refl e (taken-none ws) h
@@ -41,7 +41,7 @@ module _ (P : Program) (v : List ℤ) where
       go false q e ih (inl o) = clash o q
       go false q e ih (inr h) = ih e h
 
-  -- the one taken is one of them, and its guard holds
+  -- the switch that is taken of a list is one of it, and its guard holds
   pub taken-some : (ws : List Switch) (u : Switch) → taken P v ws ≡ some u → Has (λ w. (w ≡ u) × Open w) ws
   taken-some [] u e = let z : _≡_ {A = ℕ} 0 1 = cc in absurd (omega arith)
   taken-some (w ∷ ws) u e = go (holds (driver P (w .driver) .guard) (valueOf v)) refl e (taken-some ws u)
@@ -52,18 +52,18 @@ module _ (P : Program) (v : List ℤ) where
       go false q e ih = inr (ih e)
 
 module _ (T : Tables) (C : Configuration) (v : List ℤ) where
-  -- the program's guard is the table's
+  -- the guard of the program's driver of a declared number is that of the tables
   guard-row : (d : ℕ) → d < driverCount T → holds (driver (programOf T) d .guard) (valueOf v) ≡ holds (guardOf T d) (valueOf v)
   guard-row d l = ap (λ (D : Driver). holds (D .guard) (valueOf v)) (driver-row T d l)
 
-  -- a switch is an enabled row of the table
+  -- a switch of the program is an enabled row of the tables
   pub record Taken (w : Switch) : Type 0 where
     pub row : ℕ
     pub enabled : SwitchEnabled T (C .mode) (C .unit) (valueOf v) row
     pub is-row : switchRow T row ≡ w
 
   module _ (f : Fields T) (m : C .mode < modeCount T) where
-    -- none is taken: all stays
+    -- where no switch is taken, no row is enabled and all stays
     pub stays : switchOf (programOf T) C v ≡ none → Stays T C (valueOf v) (valueOf v) (C .mode) (C .unit)
     stays e =
         record {
@@ -76,7 +76,7 @@ module _ (T : Tables) (C : Configuration) (v : List ℤ) where
           same-ports = λ p. refl;
         }
 
-    -- so is the switch taken
+    -- the switch that is taken is an enabled row of the tables
     pub taken-row : (w : Switch) → switchOf (programOf T) C v ≡ some w → Taken w
     taken-row w e =
         let h = taken-some (programOf T) v (dueSwitches (mode (programOf T) (C .mode)) (C .unit)) w e in
@@ -93,7 +93,7 @@ module _ (T : Tables) (C : Configuration) (v : List ℤ) where
           is-row = r .4 .0;
         }
 
-    -- its target is declared
+    -- the target of a switch that is taken is declared
     pub target-declared : (w : Switch) → Taken w → w .target < modeCount T
     target-declared w t = rw (← (t .is-row)) (f .switches (t .row) (t .enabled .in-table) .target)
 
@@ -102,7 +102,7 @@ module _ (T : Tables) (C : Configuration) (v : List ℤ) where
     entered none e = m
     entered (some w) e = target-declared w (taken-row w e)
 
-    -- a switch is taken: the mode is its target, the unit 0, and its driver's copies are made
+    -- where a switch is taken, the mode is its target, the unit 0, and its driver's copies are made
     pub switches : Shaped T → Copies T → length v ≡ maxPorts → (w : Switch) → Taken w
         → Changes T C (valueOf v) (valueOf (drive (driver (programOf T) (w .driver)) v)) (w .target) 0
     switches s k l w t =

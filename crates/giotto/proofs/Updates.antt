@@ -42,7 +42,7 @@ module _ (T : Tables) (C : Configuration) where
       (λ l. u .apart j i p l (b .in-table) (a .of-mode ∙ sym (b .of-mode)) d c)
       (λ l. u .apart i j p l (a .in-table) (b .of-mode ∙ sym (a .of-mode)) c d)
 
-  -- the assignments are the writes
+  -- the assignments of step 2 are its writes
   updates-wrote : Fields T → C .mode < modeCount T → (v : List ℤ) (p : ℕ) (x : ℤ) → Wrote (updatePuts v) p x ↔ UpdateWrites T C (valueOf v) p x
   updates-wrote f m v p x =
       let s = wrote-all v (λ (r : Update). driver (programOf T) (r .driver)) (dueUpdates (mode (programOf T) (C .mode)) (C .unit)) p x in
@@ -60,14 +60,14 @@ module _ (T : Tables) (C : Configuration) where
         )),
       )
 
-  -- after step 2
+  -- the assignments of step 2 leave the next values that 001 asks for
   pub updates-next : Shaped T → Fields T → Copies T → Updates T → C .mode < modeCount T → (v : List ℤ) → length v ≡ maxPorts
       → Next (UpdateWrites T C (valueOf v)) (valueOf v) (valueOf (afterUpdates (programOf T) (mode (programOf T) (C .mode)) (C .unit) v))
   updates-next s f k u m v e =
       next-puts v e (rows-assign T (updateDriver T) (updatePuts v) (valueOf v) s f k (updates-wrote f m v) (update-row u))
 
 module _ (T : Tables) where
-  -- the assignments are the writes
+  -- the assignments of step 3 are its writes
   sensors-wrote : (value : Valuation) (p : ℕ) (x : ℤ)
       → Wrote (takes value (programOf T .sensors)) p x ↔ SensorWrites T value p x
   sensors-wrote value p x =
@@ -87,7 +87,7 @@ module _ (T : Tables) where
         inside = λ p x w. omega (arith, ports-few T s, w .0 .0);
       }
 
-  -- after step 3
+  -- the assignments of step 3 leave the next values that 001 asks for
   pub sensors-next : Shaped T → (readings v : List ℤ) → length v ≡ maxPorts
       → Next (SensorWrites T (valueOf readings)) (valueOf v) (valueOf (afterSensors (programOf T) readings v))
   sensors-next s readings v e = next-puts v e (sensors-assign s (valueOf readings))

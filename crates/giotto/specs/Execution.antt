@@ -1,5 +1,5 @@
 -- An execution of a program: the configuration at every tick, and so the value of every port at every tick.
--- Ports keep their values between instants. Assumes nothing.
+-- Ports keep their values between instants.
 use Prim.Native.Nat.{ℕ, zero, suc}
 use mathlib.Core.Bool.{true, false}
 use mathlib.Core.List.{List, []}
@@ -9,7 +9,7 @@ use Rattle.program.specs.Program.{Program}
 use Rattle.giotto.specs.Instant.{Configuration, instant, released, Function, results}
 
 module _ (P : Program) (F : Function) where
-  -- C₀ = (0, start, 0, init, ∅)
+  -- the initial configuration, C₀ = (0, start, 0, init, ∅)
   abbrev pub initial : Configuration
   initial = record { time = 0; mode = P .start; unit = 0; ports = P .first; active = λ t. false }
 
@@ -17,18 +17,19 @@ module _ (P : Program) (F : Function) where
   abbrev pub pass : ℕ → List ℤ → Configuration → Configuration
   pass n readings C = elim (eqb (C .time) n) [ true ↦ instant P (results P F (C .ports)) readings C | false ↦ C ]
 
-  -- before tick n
+  -- the configuration of an execution before tick n
   abbrev pub execution : (ℕ → List ℤ) → ℕ → Configuration
   execution readings zero = initial
   execution readings (suc n) = let C = execution readings n in pass n (readings n) C
 
-  -- the tasks that become active in tick n
+  -- the tasks that become active in tick n, from a configuration before it
   abbrev pub releasedBy : ℕ → List ℤ → Configuration → List ℕ
   releasedBy n readings C = elim (eqb (C .time) n) [ true ↦ released P (results P F (C .ports)) readings C | false ↦ [] ]
 
+  -- the tasks that become active in tick n of an execution
   abbrev pub releasedAt : (ℕ → List ℤ) → ℕ → List ℕ
   releasedAt readings n = releasedBy n (readings n) (execution readings n)
 
-  -- the ports in tick n
+  -- the port values of an execution in tick n
   abbrev pub portsAt : (ℕ → List ℤ) → ℕ → List ℤ
   portsAt readings n = execution readings (suc n) .ports

@@ -1,5 +1,4 @@
 -- One instant of Giotto, after 001, section 3.2, bounded as in document 01: no machine, no code, no schedule.
--- Assumes nothing.
 use Prim.Native.Nat.{ℕ, _+_}
 use mathlib.Core.Bool.{Bool, true, false, not, _&&_, _||_}
 use mathlib.Core.List.{List, [], _∷_, map}
@@ -19,17 +18,18 @@ pub record Configuration : Type 0 where
   pub ports : List ℤ
   pub active : ℕ → Bool
 
--- (4) "the mode becomes the target and the unit 0", where a switch is taken
+-- (4) the mode that is entered: where a switch is taken "the mode becomes the target", else it stays
 abbrev pub modeAfter : ℕ → Option Switch → ℕ
 modeAfter m none = m
 modeAfter m (some w) = w .target
 
+-- (4) the unit that is entered: where a switch is taken it becomes 0, else it stays
 abbrev pub unitAfter : ℕ → Option Switch → ℕ
 unitAfter k none = k
 unitAfter k (some w) = enteredUnit k w
 
 module _ (P : Program) where
-  -- the active due tasks
+  -- the tasks that are active and due in a configuration
   abbrev pub completed : Configuration → List ℕ
   completed C = keep (C .active) (dueTasks (mode P (C .mode)) (C .unit))
 
@@ -37,29 +37,29 @@ module _ (P : Program) where
   abbrev pub afterTasks : (ℕ → ℕ → ℤ) → Configuration → List ℤ
   afterTasks result C = puts (gather (λ t. takes (result t) (task P t .outputs)) (completed C)) (C .ports)
 
-  -- (2) due updates
+  -- (2) the port values after the due updates of a mode and unit
   abbrev pub afterUpdates : Mode → ℕ → List ℤ → List ℤ
   afterUpdates M k v = driveAll (map (λ r. driver P (r .driver)) (dueUpdates M k)) v
 
-  -- (3) all sensors are read
+  -- (3) the port values after all sensors are read
   abbrev pub afterSensors : List ℤ → List ℤ → List ℤ
   afterSensors readings v = puts (takes (valueOf readings) (P .sensors)) v
 
-  -- (4) the due switch whose guard holds: the first in table order (where 8 does not apply, it is the only one)
+  -- (4) the due switch that is taken: the first in table order whose guard holds (where 8 does not apply, it is the only one)
   abbrev pub taken : List ℤ → List Switch → Option Switch
   taken v [] = none
   taken v (w ∷ ws) = elim (holds (driver P (w .driver) .guard) (valueOf v)) [ true ↦ some w | false ↦ taken v ws ]
 
-  -- its copies are made
+  -- (4) the port values after the copies of the switch that is taken, or none
   abbrev pub afterSwitch : Option Switch → List ℤ → List ℤ
   afterSwitch none v = v
   afterSwitch (some w) v = drive (driver P (w .driver)) v
 
-  -- (5) due task drivers of the mode now current
+  -- (5) the port values after the due task drivers of the mode now current
   abbrev pub afterDrivers : Mode → ℕ → List ℤ → List ℤ
   afterDrivers M k v = driveAll (map (λ r. driver P (r .driver)) (dueInvocations M k)) v
 
-  -- (5) to (7), with the switch that is taken, or none, and the values after (3)
+  -- (5) to (7) of an instant, with the switch that is taken, or none, and the port values after (3)
   abbrev pub enter : Configuration → Option Switch → List ℤ → Configuration
   enter C s v =
       let M = mode P (modeAfter (C .mode) s) in
@@ -72,20 +72,20 @@ module _ (P : Program) where
         active = λ t. (C .active t && not (member t (completed C))) || member t (dueTasks M k);
       }
 
-  -- the values after (3)
+  -- the port values after (1) to (3) of an instant
   abbrev pub sensed : (ℕ → ℕ → ℤ) → List ℤ → Configuration → List ℤ
   sensed result readings C =
       afterSensors readings (afterUpdates (mode P (C .mode)) (C .unit) (afterTasks result C))
 
-  -- the switch that is taken, or none
+  -- the due switch of a configuration that is taken at these port values, or none
   abbrev pub switchOf : Configuration → List ℤ → Option Switch
   switchOf C v = taken v (dueSwitches (mode P (C .mode)) (C .unit))
 
-  -- the whole instant
+  -- the whole instant: the configuration that follows a configuration at these readings
   abbrev pub instant : (ℕ → ℕ → ℤ) → List ℤ → Configuration → Configuration
   instant result readings C = let v = sensed result readings C in enter C (switchOf C v) v
 
-  -- the tasks that become active in it: (6)
+  -- (6) the tasks that become active in an instant
   abbrev pub released : (ℕ → ℕ → ℤ) → List ℤ → Configuration → List ℕ
   released result readings C =
       let s = switchOf C (sensed result readings C) in
@@ -95,6 +95,6 @@ module _ (P : Program) where
 abbrev pub Function : Type 0
 Function = ℕ → List ℤ → ℕ → ℤ
 
--- what the tasks give when their inputs have these values
+-- what each task gives for each port when the ports have these values
 abbrev pub results : Program → Function → List ℤ → ℕ → ℕ → ℤ
 results P F v t p = F t (valuesOf v (task P t .inputs)) p

@@ -1,14 +1,16 @@
 -- 001's successor configuration (section 3.2), step by step and port by port, as a claim over the tables; bounded as in
 -- document 01 (no private ports, a switch enters unit 0). 001's step 6 moves the unit before step 7 asks which tasks are due; 01's
 -- steps (5) to (7) drive and release the tasks of the unit entered and move it last, and decide: so here. `instant` computes it, and
--- nothing else succeeds: `instant-succeeds` and `successor-one` in proofs/. Assumes nothing.
+-- nothing else succeeds: `instant-succeeds` and `successor-one` in proofs/.
 use Prim.Native.Nat.{ℕ, suc, _+_, _/_, _%_, _<_}
 use mathlib.Core.Path.{_≡_}
 use mathlib.Core.Bool.{true}
 use mathlib.Core.Logic.{_⊎_, _↔_}
 use lib.IntN.{ℤ}
-use Rattle.program.specs.Tables.{Tables, copyCount, copyDriver, copySource, copyDestination, invocationCount, invocationMode, invocationFrequency}
-use Rattle.program.specs.Tables.{invocationTask, invocationDriver, updateCount, updateMode, updateFrequency, updateDriver, switchCount, switchMode, switchFrequency}
+use Rattle.program.specs.Tables.{Tables, copyCount, copyDriver, copySource, copyDestination, invocationCount, invocationMode}
+use Rattle.program.specs.Tables.{invocationFrequency}
+use Rattle.program.specs.Tables.{invocationTask, invocationDriver, updateCount, updateMode, updateFrequency, updateDriver, switchCount}
+use Rattle.program.specs.Tables.{switchMode, switchFrequency}
 use Rattle.program.specs.Tables.{switchTarget, switchDriver, modePeriod}
 use Rattle.program.specs.Guard.{guardOf, holds}
 use Rattle.program.specs.Sets.{Sensor, Output}
@@ -30,19 +32,20 @@ Drives T d v p x =
     (c : ℕ) × (c < copyCount T) × (copyDriver T c ≡ d) × (copyDestination T c ≡ p) × (x ≡ v (copySource T c))
 
 module _ (T : Tables) where
-  -- row i is of mode m, and due at unit u: u · ω / ωmax is whole
+  -- invocation row i is of mode m, and due at unit u: u · ω / ωmax is whole
   pub record InvocationDue (m u i : ℕ) : Type 0 where
     pub in-table : i < invocationCount T
     pub of-mode : invocationMode T i ≡ m
     pub is-due : due (units T m) (invocationFrequency T i) u ≡ true
 
-  -- an actuator update, a mode switch, is enabled at v
+  -- the actuator update of row i is enabled: of mode m, due at unit u, and its guard holds at v
   pub record UpdateEnabled (m u : ℕ) (v : Valuation) (i : ℕ) : Type 0 where
     pub in-table : i < updateCount T
     pub of-mode : updateMode T i ≡ m
     pub is-due : due (units T m) (updateFrequency T i) u ≡ true
     pub guard : holds (guardOf T (updateDriver T i)) v ≡ true
 
+  -- the mode switch of row i is enabled: of mode m, due at unit u, and its guard holds at v
   pub record SwitchEnabled (m u : ℕ) (v : Valuation) (i : ℕ) : Type 0 where
     pub in-table : i < switchCount T
     pub of-mode : switchMode T i ≡ m
@@ -57,25 +60,26 @@ module _ (T : Tables) where
   abbrev pub Enabled : ℕ → ℕ → ℕ → Type 0
   Enabled m u t = (i : ℕ) × InvocationDue m u i × (invocationTask T i ≡ t)
 
-  -- 1. task output ports
+  -- 1. task output ports: a completed task writes what it gives
   abbrev pub TaskWrites : (ℕ → ℕ → ℤ) → Configuration → ℕ → ℤ → Type 0
   TaskWrites result C p x = (t : ℕ) × Completed C t × Output T t p × (x ≡ result t p)
 
-  -- 2. actuator ports
+  -- 2. actuator ports: an enabled update writes what its driver copies
   abbrev pub UpdateWrites : Configuration → Valuation → ℕ → ℤ → Type 0
   UpdateWrites C v p x = (i : ℕ) × UpdateEnabled (C .mode) (C .unit) v i × Drives T (updateDriver T i) v p x
 
-  -- 3. sensor ports
+  -- 3. sensor ports: each takes its reading
   abbrev pub SensorWrites : Valuation → ℕ → ℤ → Type 0
   SensorWrites readings p x = Sensor T p × (x ≡ readings p)
 
-  -- 4. to 6. target mode, mode ports, unit counter: no switch is enabled and all stays, or switch i is
+  -- 4. to 6. target mode, mode ports, unit counter: no switch is enabled, and all stays
   pub record Stays (C : Configuration) (v w : Valuation) (m u : ℕ) : Type 0 where
     pub none-enabled : (i : ℕ) → SwitchEnabled (C .mode) (C .unit) v i → ⊥
     pub same-mode : m ≡ C .mode
     pub same-unit : u ≡ C .unit
     pub same-ports : (p : ℕ) → w p ≡ v p
 
+  -- 4. to 6. target mode, mode ports, unit counter: the switch of a row is enabled, and leads to its target at unit 0
   pub record Changes (C : Configuration) (v w : Valuation) (m u : ℕ) : Type 0 where
     pub row : ℕ
     pub enabled : SwitchEnabled (C .mode) (C .unit) v row
@@ -83,7 +87,7 @@ module _ (T : Tables) where
     pub to-unit-0 : u ≡ 0
     pub mode-ports : Next (Drives T (switchDriver T row) v) v w
 
-  -- 7. task input ports
+  -- 7. task input ports: the driver of a due invocation writes what it copies
   abbrev pub InputWrites : ℕ → ℕ → Valuation → ℕ → ℤ → Type 0
   InputWrites m u v p x = (i : ℕ) × InvocationDue m u i × Drives T (invocationDriver T i) v p x
 
@@ -105,7 +109,7 @@ pub record Successor (T : Tables) (result : ℕ → ℕ → ℤ) (readings : Val
   pub time-stamp : C′ .time ≡ C .time + modePeriod T (C′ .mode) / units T (C′ .mode)
   pub next-unit : C′ .unit ≡ suc unit % units T (C′ .mode)
 
--- what two configurations have in common
+-- two configurations agree in time, mode, unit, active tasks and every port
 pub record Same (C C′ : Configuration) : Type 0 where
   pub time : C .time ≡ C′ .time
   pub mode : C .mode ≡ C′ .mode

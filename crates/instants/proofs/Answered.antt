@@ -5,6 +5,7 @@ use mathlib.Core.Path.{_≡_, refl, sym, subst, ap, _∙_}
 use mathlib.Core.Bool.{Bool, true, false, not}
 use mathlib.Core.List.{List}
 use native.Mathlib.Omega.{arith}
+use lib.Dec.{ltb}
 use lib.IntN.{ℤ}
 use lib.ListN.{set}
 use borrow.Author.Tests.{le-leb, lt-leb}
@@ -13,7 +14,6 @@ use Rattle.theory.specs.Verdict.{acceptedNumber}
 use Rattle.cells.specs.Cell.{nameOf, rowsIn}
 use Rattle.cells.specs.Limits.{maxPorts, maxTasks, maxDrivers, firstOutputCall, firstSensorCall}
 use Rattle.cells.specs.Refusals.{overrunRefused, faultyRefused}
-use Rattle.cells.proofs.Names.{name-small}
 use Rattle.program.specs.Tables.{Tables, portWidth, portCount, sensor, output, taskWidth, taskCount, driverWidth, driverCount}
 use Rattle.program.specs.Sets.{isKind}
 use Rattle.program.specs.Program.{Task, Driver, Program, driverRow, portsOf, programOf}
@@ -26,26 +26,26 @@ use Rattle.machine.specs.Change.{withPorts}
 use Rattle.machine.specs.Instruction.{Call, driverCall, outputCall, sensorCall, callOf, namesNothing, stillCalled, called}
 use Rattle.machine.proofs.Instructions.{driver-range, output-range, sensor-range}
 use Rattle.instants.specs.Step.{callAnswer}
-use Rattle.instants.proofs.Declared.{task-past, driver-past, sensor-named, sensor-is}
+use Rattle.instants.proofs.Declared.{row-named, task-past, driver-past, sensor-named, sensor-is}
 
--- what a call number names, by its range: a driver
+-- a call number in the range of drivers names that driver
 pub driver-numbered : (n : ℕ) → n < firstOutputCall → driverCall n ≡ callOf n
 driver-numbered n l = sym (driver-range n l)
 
--- an output copy
+-- a call number in the range of output copies names that output copy
 pub output-numbered : (n : ℕ) → firstOutputCall ≤ n → n < firstSensorCall → outputCall (n - firstOutputCall) ≡ callOf n
 output-numbered n l h =
     let e : firstOutputCall + (n - firstOutputCall) ≡ n = omega arith in
     sym (output-range (n - firstOutputCall) (omega arith)) ∙ ap callOf e
 
--- the reading of a sensor
+-- a call number in the range of sensors names the reading of that sensor
 pub sensor-numbered : (n : ℕ) → firstSensorCall ≤ n → sensorCall (n - firstSensorCall) ≡ callOf n
 sensor-numbered n l =
     let e : firstSensorCall + (n - firstSensorCall) ≡ n = omega arith in
     sym (sensor-range (n - firstSensorCall)) ∙ ap callOf e
 
 module _ (P : Program) (readings times : List ℤ) (s : State) (c : Call) where
-  -- what the two tests decide
+  -- what a call comes to, by whether it names nothing and whether its task is still running
   abbrev pub answered : Bool → Bool → Advanced
   answered nothing running = elim nothing [
     | true ↦ record { number = faultyRefused; state = s }
@@ -55,84 +55,86 @@ module _ (P : Program) (readings times : List ℤ) (s : State) (c : Call) where
     ]
   ]
 
-  -- it is what the call answers
+  -- what the two tests decide is what the call answers
   pub answered-call : answered (namesNothing P c) (stillCalled s c) ≡ callAnswer P readings times s c
   unfolding callAnswer
   answered-call = refl
 
-  -- 19: it names nothing
+  -- a call that names nothing is refused with 19
   pub call-nothing : namesNothing P c ≡ true → record { number = faultyRefused; state = s } ≡ callAnswer P readings times s c
   call-nothing e = (λ i. answered (sym e i) (stillCalled s c)) ∙ answered-call
 
-  -- 17: its task is still running
+  -- a call whose task is still running is refused with 17
   pub call-running : namesNothing P c ≡ false → stillCalled s c ≡ true
       → record { number = overrunRefused; state = s } ≡ callAnswer P readings times s c
   call-running e f = (λ i. answered (sym e i) (sym f i)) ∙ answered-call
 
-  -- it is done
+  -- a call that passes both tests is done
   pub call-done : namesNothing P c ≡ false → stillCalled s c ≡ false
       → record { number = acceptedNumber; state = called P readings times s c } ≡ callAnswer P readings times s c
   call-done e f = (λ i. answered (sym e i) (sym f i)) ∙ answered-call
 
 module _ (T : Tables) (readings times : List ℤ) (s : State) where
-  -- a driver that is not declared
-  pub driver-nothing : {drivers : List ℤ} (d : ℕ) → T .drivers ≡ drivers → rowsIn driverWidth drivers ≤ d
-      → record { number = faultyRefused; state = s } ≡ callAnswer (programOf T) readings times s (driverCall d)
-  driver-nothing d e l = call-nothing (programOf T) readings times s (driverCall d) (driver-past T d e ∙ le-leb _ d l)
+  -- the driver of number d, its name, and whether it is declared
+  module _ {drivers : List ℤ} (d name : ℕ) (b : Bool) (e : T .drivers ≡ drivers) (few : rowsIn driverWidth drivers ≤ maxDrivers)
+      (n : name ≡ nameOf d) (is-b : b ≡ ltb name (rowsIn driverWidth drivers)) where
+    -- a driver that is not declared is refused with 19
+    pub driver-nothing : not b ≡ true → record { number = faultyRefused; state = s } ≡ callAnswer (programOf T) readings times s (driverCall d)
+    driver-nothing h = call-nothing (programOf T) readings times s (driverCall d) (driver-past T d name b e few n is-b ∙ h)
 
-  -- one that is: it moves what its row says
-  pub driver-done : {drivers : List ℤ} (d name : ℕ) (v : List ℤ) → T .drivers ≡ drivers → rowsIn driverWidth drivers ≤ maxDrivers
-      → d < rowsIn driverWidth drivers → name ≡ nameOf d → v ≡ drive (driverRow T name) (s .ports)
-      → record { number = acceptedNumber; state = withPorts s v } ≡ callAnswer (programOf T) readings times s (driverCall d)
-  driver-done d name v e few l n h =
-      let named : name ≡ d = n ∙ name-small d (omega arith) in
-      let declared : d < driverCount T = subst (λ (t : List ℤ). d < rowsIn driverWidth t) (sym e) l in
-      ap (λ (w : List ℤ). record { number = acceptedNumber; state = withPorts s w })
-      (h ∙ ap (λ (k : ℕ). drive (driverRow T k) (s .ports)) named ∙ ap (λ (D : Driver). drive D (s .ports)) (sym (driver-row T d declared)))
-      ∙ call-done (programOf T) readings times s (driverCall d) (driver-past T d e ∙ lt-leb _ d l) refl
+    -- a declared driver moves what its row says
+    pub driver-done : (v : List ℤ) → not b ≡ false → v ≡ drive (driverRow T name) (s .ports)
+        → record { number = acceptedNumber; state = withPorts s v } ≡ callAnswer (programOf T) readings times s (driverCall d)
+    driver-done v h o =
+        let (l, named) = row-named (rowsIn driverWidth drivers) d name (omega arith) n b is-b h in
+        let declared : d < driverCount T = subst (λ (t : List ℤ). d < rowsIn driverWidth t) (sym e) l in
+        ap (λ (w : List ℤ). record { number = acceptedNumber; state = withPorts s w })
+        (o ∙ ap (λ (k : ℕ). drive (driverRow T k) (s .ports)) named ∙ ap (λ (D : Driver). drive D (s .ports)) (sym (driver-row T d declared)))
+        ∙ call-done (programOf T) readings times s (driverCall d) (driver-past T d name b e few n is-b ∙ h) refl
 
-  -- a task that is not declared
-  pub output-nothing : {tasks : List ℤ} (t : ℕ) → T .tasks ≡ tasks → rowsIn taskWidth tasks ≤ t
-      → record { number = faultyRefused; state = s } ≡ callAnswer (programOf T) readings times s (outputCall t)
-  output-nothing t e l = call-nothing (programOf T) readings times s (outputCall t) (task-past T t e ∙ le-leb _ t l)
+  -- the task of number t, its name, and whether it is declared
+  module _ {tasks : List ℤ} (t name : ℕ) (b : Bool) (e : T .tasks ≡ tasks) (few : rowsIn taskWidth tasks ≤ maxTasks)
+      (n : name ≡ nameOf t) (is-b : b ≡ ltb name (rowsIn taskWidth tasks)) where
+    -- a task that is not declared is refused with 19
+    pub output-nothing : not b ≡ true → record { number = faultyRefused; state = s } ≡ callAnswer (programOf T) readings times s (outputCall t)
+    output-nothing h = call-nothing (programOf T) readings times s (outputCall t) (task-past T t name b e few n is-b ∙ h)
 
-  module _ {tasks : List ℤ} (t name : ℕ) (e : T .tasks ≡ tasks) (few : rowsIn taskWidth tasks ≤ maxTasks)
-      (l : t < rowsIn taskWidth tasks) (n : name ≡ nameOf t) where
-    -- a declared task is named by its number
-    named-task : name ≡ t
-    named-task = n ∙ name-small t (omega arith)
+    -- a declared task has its number as name
+    named-task : not b ≡ false → (t < rowsIn taskWidth tasks) × (name ≡ t)
+    named-task = row-named (rowsIn taskWidth tasks) t name (omega arith) n b is-b
 
-    -- it is still running
-    pub output-running : (rest : ℕ) → rest ≡ leftOf (s .left) name → 0 < rest
+    -- a task that is still running is refused with 17
+    pub output-running : not b ≡ false → (rest : ℕ) → rest ≡ leftOf (s .left) name → 0 < rest
         → record { number = overrunRefused; state = s } ≡ callAnswer (programOf T) readings times s (outputCall t)
-    output-running rest r h =
-        call-running (programOf T) readings times s (outputCall t) (task-past T t e ∙ lt-leb _ t l)
-        (le-leb 1 _ (subst (λ (k : ℕ). 1 ≤ k) (r ∙ ap (leftOf (s .left)) named-task) h))
+    output-running d rest r h =
+        call-running (programOf T) readings times s (outputCall t) (task-past T t name b e few n is-b ∙ d)
+        (le-leb 1 _ (subst (λ (k : ℕ). 1 ≤ k) (r ∙ ap (leftOf (s .left)) (named-task d .1)) h))
 
-    -- it has ended: its outputs take its local outputs
-    pub output-done : (rest : ℕ) (v : List ℤ) → rest ≡ leftOf (s .left) name → rest ≤ 0
+    -- the outputs of a task that has ended take its local outputs
+    pub output-done : not b ≡ false → (rest : ℕ) (v : List ℤ) → rest ≡ leftOf (s .left) name → rest ≤ 0
         → v ≡ puts (takes (valueOf (s .outputs)) (portsOf T output name)) (s .ports)
         → record { number = acceptedNumber; state = withPorts s v } ≡ callAnswer (programOf T) readings times s (outputCall t)
-    output-done rest v r h o =
+    output-done d rest v r h o =
+        let (l, named) = named-task d in
         let declared : t < taskCount T = subst (λ (t′ : List ℤ). t < rowsIn taskWidth t′) (sym e) l in
         ap (λ (w : List ℤ). record { number = acceptedNumber; state = withPorts s w })
-        (o ∙ ap (λ (k : ℕ). puts (takes (valueOf (s .outputs)) (portsOf T output k)) (s .ports)) named-task
+        (o ∙ ap (λ (k : ℕ). puts (takes (valueOf (s .outputs)) (portsOf T output k)) (s .ports)) named
         ∙ ap (λ (K : Task). puts (takes (valueOf (s .outputs)) (K .outputs)) (s .ports)) (sym (task-row T t declared)))
-        ∙ call-done (programOf T) readings times s (outputCall t) (task-past T t e ∙ lt-leb _ t l)
-        (lt-leb 1 _ (subst (λ (k : ℕ). k < 1) (r ∙ ap (leftOf (s .left)) named-task) (omega arith)))
+        ∙ call-done (programOf T) readings times s (outputCall t) (task-past T t name b e few n is-b ∙ d)
+        (lt-leb 1 _ (subst (λ (k : ℕ). k < 1) (r ∙ ap (leftOf (s .left)) named) (omega arith)))
 
   module _ {ports : List ℤ} (p name : ℕ) (e : T .ports ≡ ports) (few : rowsIn portWidth ports ≤ maxPorts) (n : name ≡ nameOf p) where
     -- the tables have no more ports than the limit
     few-ports : portCount T ≤ maxPorts
     few-ports = subst (λ (t : List ℤ). rowsIn portWidth t ≤ maxPorts) (sym e) few
 
-    -- a port that is no sensor
+    -- the reading of a port that is no sensor is refused with 19
     pub sensor-nothing : isKind T sensor name ≡ false → record { number = faultyRefused; state = s } ≡ callAnswer (programOf T) readings times s (sensorCall p)
     sensor-nothing h =
         call-nothing (programOf T) readings times s (sensorCall p)
         (ap not (sym (ap (isKind T sensor) n ∙ sensor-is T few-ports p) ∙ h))
 
-    -- one that is: it takes its reading
+    -- a sensor takes its reading
     pub sensor-done : (v : List ℤ) → isKind T sensor name ≡ true → v ≡ set (s .ports) name (valueOf readings name)
         → record { number = acceptedNumber; state = withPorts s v } ≡ callAnswer (programOf T) readings times s (sensorCall p)
     sensor-done v h o =

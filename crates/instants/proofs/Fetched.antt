@@ -1,5 +1,4 @@
 -- The instruction that stands at the machine's address, from the three words there; past the end stands none.
--- Assumes nothing.
 use Prim.Native.Nat.{ℕ, _+_, _*_, _/_, _≤_, _<_}
 use mathlib.Core.Path.{_≡_, refl, sym, ap, _∙_}
 use mathlib.Core.List.{List}
@@ -18,7 +17,7 @@ use Rattle.instants.specs.Step.{stepped, stepAt}
 use Rattle.instants.proofs.Steps.{refusedWith, step-faulty}
 
 module _ (P : Program) (readings times : List ℤ) (code : List ℕ) (a : At) where
-  -- past the end
+  -- past the end of the code stands no instruction, which is refused with 19
   pub fetched-none : length code / wordsEach ≤ a .address → refusedWith a faultyRefused ≡ stepAt P readings times (instructions code) a
   fetched-none l =
       step-faulty P readings times (length (instructions code)) a faulty refl
@@ -28,14 +27,14 @@ module _ (P : Program) (readings times : List ℤ) (code : List ℕ) (a : At) wh
   module _ (number first second : ℕ) (l : a .address < length code / wordsEach)
       (w : number ≡ wordAt code (a .address * wordsEach)) (x : first ≡ wordAt code (a .address * wordsEach + 1))
       (y : second ≡ wordAt code (a .address * wordsEach + 2)) where
-    -- what its words say is executed
+    -- the instruction that the three words say is executed
     pub fetched : (r : Stepped) (n : ℕ) → number ≡ n → r ≡ stepped P readings times (length code / wordsEach) (decode n first second) a
         → r ≡ stepAt P readings times (instructions code) a
     fetched r n e s =
         s ∙ ap (λ (k : ℕ). stepped P readings times k (decode n first second) a) (sym (instructions-length code))
         ∙ ap (λ (o : Op). stepped P readings times (length (instructions code)) o a) (instruction-read code (a .address) n first second l (sym e ∙ w) x y)
 
-    -- it has none of the six numbers
+    -- an instruction that has none of the six numbers is refused with 19
     pub fetched-unknown : (number ≡ callNumber → ⊥) → (number ≡ scheduleNumber → ⊥) → (number ≡ ifNumber → ⊥) → (number ≡ jumpNumber → ⊥)
         → (number ≡ futureNumber → ⊥) → (number ≡ returnNumber → ⊥)
         → refusedWith a faultyRefused ≡ stepAt P readings times (instructions code) a

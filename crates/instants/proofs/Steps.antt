@@ -1,5 +1,4 @@
 -- What one instruction comes to, by its tests: refused with 19, 16 or 17, in that order, or executed.
--- Assumes nothing.
 use Prim.Native.Nat.{ℕ, zero, suc, _+_}
 use mathlib.Core.Path.{_≡_, refl, sym, ap, _∙_}
 use mathlib.Core.Bool.{Bool, true, false, not, _&&_, _||_}
@@ -30,16 +29,16 @@ either-some zero n = ap (ltb 0) (sym (zero-add n))
 either-some (suc m) n = ap (λ (b : Bool). b || ltb 0 n) (lt-ltb 0 (suc m) (omega arith)) ∙ sym (lt-ltb 0 (suc m + n) (omega arith))
 
 module _ (a : At) where
-  -- refused with this number, the machine as it was
+  -- an instruction refused with this number, the machine as it was
   abbrev pub refusedWith : ℕ → Stepped
   refusedWith number = record { number = number; over = false; at = a }
 
-  -- on to the next address, with this state
+  -- an instruction executed: the machine on to the next address, with this state
   abbrev pub moved : Bool → State → Stepped
   moved planned s =
       record { number = acceptedNumber; over = false; at = record { address = suc (a .address); planned = planned; state = s } }
 
-  -- the code adds one
+  -- the code adds one to the address
   pub moved-on : (planned : Bool) (s : State)
       → record { number = acceptedNumber; over = false; at = record { address = a .address + 1; planned = planned; state = s } }
       ≡ moved planned s
@@ -48,11 +47,11 @@ module _ (a : At) where
 
 module _ (P : Program) (readings times : List ℤ) (n : ℕ) (a : At) where
   module _ (o : Op) where
-    -- the machine after it
+    -- what an instruction that is executed comes to
     abbrev pub executed : Stepped
     executed = record { number = acceptedNumber; over = isReturn o; at = executes P readings times o a }
 
-    -- what the three tests decide
+    -- what an instruction comes to, by the tests of 19, 16 and 17
     abbrev pub decided : Bool → Bool → Bool → Stepped
     decided faulty late running =
         elim (orElse faulty faultyRefused (orElse late timeRefused (orElse running overrunRefused acceptedNumber))) [
@@ -60,26 +59,26 @@ module _ (P : Program) (readings times : List ℤ) (n : ℕ) (a : At) where
           | suc m ↦ refusedWith a (suc m)
         ]
 
-    -- it is what the step comes to
+    -- what the three tests decide is what the step comes to
     pub decided-step : decided (isFaulty P n (a .planned) o) (timeBad P times o) (stillRunning (a .state) o) ≡ stepped P readings times n o a
     unfolding stepped
     decided-step = refl
 
-    -- 19: it is faulty
+    -- an instruction that is faulty is refused with 19
     pub step-faulty : isFaulty P n (a .planned) o ≡ true → refusedWith a faultyRefused ≡ stepped P readings times n o a
     step-faulty e = (λ i. decided (sym e i) (timeBad P times o) (stillRunning (a .state) o)) ∙ decided-step
 
-    -- 16: the time that it is lent is not in range
+    -- an instruction that is lent a time out of range is refused with 16
     pub step-late : isFaulty P n (a .planned) o ≡ false → timeBad P times o ≡ true
         → refusedWith a timeRefused ≡ stepped P readings times n o a
     step-late e f = (λ i. decided (sym e i) (sym f i) (stillRunning (a .state) o)) ∙ decided-step
 
-    -- 17: its task is still running
+    -- an instruction whose task is still running is refused with 17
     pub step-running : isFaulty P n (a .planned) o ≡ false → timeBad P times o ≡ false → stillRunning (a .state) o ≡ true
         → refusedWith a overrunRefused ≡ stepped P readings times n o a
     step-running e f g = (λ i. decided (sym e i) (sym f i) (sym g i)) ∙ decided-step
 
-    -- it is executed
+    -- an instruction that passes the three tests is executed
     pub step-executed : isFaulty P n (a .planned) o ≡ false → timeBad P times o ≡ false → stillRunning (a .state) o ≡ false
         → executed ≡ stepped P readings times n o a
     step-executed e f g = (λ i. decided (sym e i) (sym f i) (sym g i)) ∙ decided-step
@@ -93,17 +92,17 @@ module _ (P : Program) (readings times : List ℤ) (n : ℕ) (a : At) where
       go zero e = e
       go (suc u) e = refl
 
-  -- where it is 0, the words say the instruction
+  -- where the unused word is 0, the words say the instruction
   pub unused-none : (u : ℕ) (o : Op) → ltb 0 u ≡ false → stepped P readings times n o a ≡ stepped P readings times n (unused u o) a
   unused-none zero o e = refl
   unused-none (suc u) o e = clash (lt-ltb 0 (suc u) (omega arith)) e
 
-  -- `jump`: its unused word is not 0, or its address is past the end
+  -- a `jump` is refused where its unused word is not 0, or its address is past the end
   pub jump-refused : (to u : ℕ) → (ltb 0 u || leb n to) ≡ true
       → refusedWith a faultyRefused ≡ stepped P readings times n (decode jumpNumber to u) a
   jump-refused to u e = unused-faulty u (jump to) e
 
-  -- it jumps
+  -- a `jump` that is not refused goes on at its address
   pub jump-executed : (to u : ℕ) → (ltb 0 u || leb n to) ≡ false
       → record { number = acceptedNumber; over = false; at = record { address = to; planned = a .planned; state = a .state } }
       ≡ stepped P readings times n (decode jumpNumber to u) a
@@ -111,13 +110,13 @@ module _ (P : Program) (readings times : List ℤ) (n : ℕ) (a : At) where
       let (none, inside) = neither (ltb 0 u) (leb n to) e in
       step-executed (jump to) inside refl refl ∙ unused-none u (jump to) none
 
-  -- `future`: one was executed before, its delay is not in range, or its address is past the end
+  -- a `future` is refused where one was executed before, its delay is not in range, or its address is past the end
   pub future-refused : (delay to : ℕ) → (a .planned || not (leb 1 delay && leb delay maxDelay) || leb n to) ≡ true
       → refusedWith a faultyRefused ≡ stepped P readings times n (decode futureNumber delay to) a
   unfolding inRange
   future-refused delay to e = step-faulty (future delay to) e
 
-  -- a block begins here
+  -- at a `future` that is not refused a block begins
   pub future-executed : (delay to : ℕ) → (a .planned || not (leb 1 delay && leb delay maxDelay) || leb n to) ≡ false
       → record {
         number = acceptedNumber;
@@ -128,13 +127,13 @@ module _ (P : Program) (readings times : List ℤ) (n : ℕ) (a : At) where
   unfolding inRange
   future-executed delay to e = moved-on a true _ ∙ step-executed (future delay to) e refl refl
 
-  -- `return`: a word of it is not 0, or no `future` was executed
+  -- a `return` is refused where a word of it is not 0, or no `future` was executed
   pub return-refused : (first second : ℕ) → (ltb 0 first || ltb 0 second || not (a .planned)) ≡ true
       → refusedWith a faultyRefused ≡ stepped P readings times n (decode returnNumber first second) a
   return-refused first second e =
       unused-faulty (first + second) return (ap (λ (b : Bool). b || not (a .planned)) (sym (either-some first second)) ∙ e)
 
-  -- the instant is over
+  -- after a `return` that is not refused the instant is over
   pub return-executed : (first second : ℕ) → (ltb 0 first || ltb 0 second || not (a .planned)) ≡ false
       → record { number = acceptedNumber; over = true; at = a } ≡ stepped P readings times n (decode returnNumber first second) a
   return-executed first second e =

@@ -1,5 +1,5 @@
 -- What one instruction of E code comes to, as the code hands it on: 19, 16 or 17, or the machine after it, and whether it was the
--- `return`. Assumes nothing.
+-- `return`.
 use Prim.Native.Nat.{ℕ, zero, suc, _^_}
 use mathlib.Core.Bool.{true, false}
 use mathlib.Core.List.{List}
@@ -21,7 +21,7 @@ abbrev pub addressEnd : ℕ
 addressEnd = 2 ^ 63
 
 module _ (P : Program) (readings times : List ℤ) where
-  -- a call: 19 if it names nothing, 17 if its task is still running, or the state after it
+  -- what a call comes to: 19 if it names nothing, 17 if its task is still running, or the state after it
   unfoldable pub callAnswer : State → Call → Advanced
   callAnswer s c = elim (namesNothing P c) [
     | true ↦ record { number = faultyRefused; state = s }
@@ -31,13 +31,13 @@ module _ (P : Program) (readings times : List ℤ) where
     ]
   ]
 
-  -- an instruction, in a code of n
+  -- what an instruction comes to, in a code of n instructions
   unfoldable pub stepped : ℕ → Op → At → Stepped
   stepped n o a = elim (verdict (instructionRefusals P readings times n o) a) [
     | zero ↦ record { number = acceptedNumber; over = isReturn o; at = executes P readings times o a }
     | suc m ↦ record { number = suc m; over = false; at = a }
   ]
 
-  -- the one that stands at the machine's address
+  -- what the instruction that stands at the machine's address comes to
   abbrev pub stepAt : List Op → At → Stepped
   stepAt code a = stepped (length code) (fetch P readings times code a) a

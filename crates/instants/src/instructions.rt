@@ -13,27 +13,27 @@ ghost use Rattle.rules.specs.Shape.{InShape};
 ghost use Rattle.code.specs.Op.{callNumber, scheduleNumber, ifNumber, jumpNumber, futureNumber, returnNumber, instructions, decode};
 ghost use Rattle.instants.specs.Step.{addressEnd, stepped, stepAt};
 use crate::calls;
-use cells::columns::driver;
-use cells::columns::task;
+use cells::drivers;
 use cells::kinds::Driver;
 use cells::kinds::Task;
 use cells::limits::Program;
 use cells::refusals;
 use cells::table;
 use cells::tables;
+use cells::tasks;
 use code::numbers;
 use machine::At;
 use machine::State;
 use program::guard;
-use runs::turn;
 
-// 0, or 19, 16 or 17; whether it was the `return`; the machine after it, as it was if refused.
+// What an instruction comes to: 0, 19, 16 or 17; whether it was the `return`; the machine after it, as it was if refused.
 pub struct Stepped {
     pub number: usize,
     pub over: bool,
     pub at: At,
 }
 
+// An instruction refused with this number; the machine is as it was.
 fn refused(number: usize, at: At) -> Stepped
     ensures { λ r. ⌜ r ≡ record { number = number; over = false; at = at } ⌝ }
 {
@@ -44,7 +44,7 @@ fn refused(number: usize, at: At) -> Stepped
     }
 }
 
-// On to the next address, with this state.
+// An instruction executed: the machine goes on to the next address, with this state.
 fn moved(at: At, state: State) -> Stepped
     requires { ⌜ at .address < addressEnd ⌝ }
     ensures { λ r. ⌜ r ≡ record {
@@ -69,7 +69,7 @@ fn moved(at: At, state: State) -> Stepped
     }
 }
 
-// `call n`.
+// The instruction `call n`: the call of this number is made.
 fn call(
     tables: &[&[i32]; Program::TABLES],
     readings: &[i32],
@@ -94,51 +94,53 @@ fn call(
     moved(at, state)
 }
 
-// `schedule task`: it is released with the time lent for it.
+// The instruction `schedule task`: the task of number t is released with the time lent for it.
 fn schedule(tasks: &[i32], times: &[i32], t: usize, unused: usize, at: At) -> Stepped
     requires { ⌜ rowsIn taskWidth (now tasks) ≤ maxTasks ⌝ }
     requires { ⌜ at .address < addressEnd ⌝ }
     ensures { λ r. ⌜ ((T : Tables) → T .tasks ≡ now (tasks .entry) → (readings : List ℤ) (count : ℕ)
         → r ≡ stepped (programOf T) readings (now (times .entry)) count (decode scheduleNumber t unused) at) ⌝ }
 {
-    if (0 < unused) | (tasks.len() / task::WIDTH <= t) {
+    let own = Task::of(t);
+    if (0 < unused) | !tasks::declared(tasks, own) {
         return refused(refusals::FAULTY, at);
     }
-    let time = table::num(times, t);
-    let worst = table::field(tasks, task::WIDTH, t, task::WORST);
+    let time = tasks::time(times, own);
+    let worst = tasks::worst(tasks, own);
     let in_range = (1 <= time) & (time <= worst);
     if !in_range {
         return refused(refusals::TIME, at);
     }
     let mut state = at.state;
     let mut left = state.left;
-    if 0 < turn::left_of(&left, Task::of(t)) {
+    if 0 < tasks::left(&left, own) {
         return refused(refusals::OVERRUN, at);
     }
-    left[t] = time;
+    tasks::put_left(&mut left, own, time);
     state.left = left;
     moved(at, state)
 }
 
-// `if driver address`: on at the address where the driver's guard holds.
+// The instruction `if driver address`: the machine goes on at the address where the guard of the driver of number d holds.
 fn branch(drivers: &[i32], count: usize, d: usize, to: usize, at: At) -> Stepped
     requires { ⌜ rowsIn driverWidth (now drivers) ≤ maxDrivers ⌝ }
     requires { ⌜ at .address < addressEnd ⌝ }
     ensures { λ r. ⌜ ((T : Tables) → T .drivers ≡ now (drivers .entry) → (readings times : List ℤ)
         → r ≡ stepped (programOf T) readings times count (decode ifNumber d to) at) ⌝ }
 {
-    if (drivers.len() / driver::WIDTH <= d) | (count <= to) {
+    let own = Driver::of(d);
+    if !drivers::declared(drivers, own) | (count <= to) {
         return refused(refusals::FAULTY, at);
     }
     let state = at.state;
     let ports = state.ports;
-    if guard::guard_holds(drivers, Driver::of(d), &ports) {
+    if guard::guard_holds(drivers, own, &ports) {
         return jump(count, to, 0, at);
     }
     moved(at, state)
 }
 
-// `jump address`.
+// The instruction `jump address`: the machine goes on at the address.
 fn jump(count: usize, to: usize, unused: usize, at: At) -> Stepped
     ensures { λ r. ⌜ ((T : Tables) (readings times : List ℤ)
         → r ≡ stepped (programOf T) readings times count (decode jumpNumber to unused) at) ⌝ }
@@ -155,7 +157,7 @@ fn jump(count: usize, to: usize, unused: usize, at: At) -> Stepped
     }
 }
 
-// `future delay address`: a block begins here, and all suppliers are at its start.
+// The instruction `future delay address`: a block begins here, and all suppliers are at its start.
 fn future(count: usize, delay: usize, to: usize, at: At) -> Stepped
     requires { ⌜ at .address < addressEnd ⌝ }
     ensures { λ r. ⌜ ((T : Tables) (readings times : List ℤ)
@@ -182,7 +184,7 @@ fn future(count: usize, delay: usize, to: usize, at: At) -> Stepped
     }
 }
 
-// `return`: the instant is over, if a `future` was executed in it.
+// The instruction `return`: the instant is over, if a `future` was executed in it.
 fn finish(first: usize, second: usize, at: At) -> Stepped
     ensures { λ r. ⌜ ((T : Tables) (readings times : List ℤ) (count : ℕ)
         → r ≡ stepped (programOf T) readings times count (decode returnNumber first second) at) ⌝ }
@@ -197,7 +199,7 @@ fn finish(first: usize, second: usize, at: At) -> Stepped
     }
 }
 
-// The instruction at the machine's address, by its number; past the end stands none.
+// The instruction at the machine's address is executed, by its number; past the end of the code stands none.
 pub fn step(
     tables: &[&[i32]; Program::TABLES],
     code: &[u32],

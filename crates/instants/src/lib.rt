@@ -16,7 +16,7 @@ use machine::State;
 mod calls;
 mod instructions;
 
-// All instructions were run: one more inside the code is 20, running off the end 19.
+// What an instant comes to after as many instructions as the code has: 20 at an address inside the code, 19 at one past its end.
 fn spent(count: usize, address: usize, s: State) -> Advanced
     ensures { λ r. ⌜ r ≡ answer s (ended count address) ⌝ }
 {
@@ -32,8 +32,8 @@ fn spent(count: usize, address: usize, s: State) -> Advanced
     }
 }
 
-// The instant, or its refusal with the state as it was.
-pub fn run(
+// The state after one instant, or its refusal with the state as it was.
+pub fn instant(
     tables: &[&[i32]; Program::TABLES],
     code: &[u32],
     readings: &[i32],

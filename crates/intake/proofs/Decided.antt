@@ -1,4 +1,4 @@
--- Once the text is decided, more bytes change nothing of what is heard. Assumes nothing.
+-- Once the text is decided, more bytes change nothing of what is heard.
 use Prim.Native.Nat.{ℕ}
 use mathlib.Core.Path.{_≡_, refl, sym, ap, subst, _∙_}
 use mathlib.Core.Bool.{true}
@@ -19,19 +19,19 @@ part-decided : (f : Fed) (p : Part) → isDecided (atPart f p .intake) ≡ isDec
 unfolding isDecided
 part-decided f p = refl
 
--- nor for what is heard
+-- what was read of a line does not matter for what is heard
 part-heard : (f : Fed) (p : Part) → heard (atPart f p) ≡ heard f
 unfolding heard isComplete
 part-heard f p = refl
 
 module _ (f : Fed) (d : isDecided (f .intake) ≡ true) where
-  -- a line end begins a line, and does nothing else
+  -- in a text that is decided a line end begins a line, and does nothing else
   line-decided : lineEnd f ≡ atPart f startPart
   unfolding lineEnd
   line-decided =
       ap (λ (g : Fed). atPart g startPart) (took-decided (f .intake) (f .room) (signedOf (f .intake .part)) d)
 
-  -- the end of the input does nothing
+  -- in a text that is decided the end of the input does nothing
   ended-decided : heard (endedOf f) ≡ heard f
   unfolding endedOf
   ended-decided =
@@ -45,7 +45,7 @@ module _ (f : Fed) (d : isDecided (f .intake) ≡ true) where
       let longer = partAfter (f .intake .part) b in
       cond-all P (eqb b newline) (lineEnd f) (atPart f longer) (λ e. subst P (sym line-decided) (h startPart)) (λ e. h longer)
 
--- any bytes
+-- once the text is decided, more bytes change nothing of what is heard
 pub decided-stays : DecidedStays
 decided-stays f d [] = ended-decided f d
 decided-stays f d (b ∷ bs) =

@@ -1,4 +1,4 @@
--- At the end of the lines: what the definition says of none is what the intake comes to. Assumes nothing.
+-- At the end of the lines: what the definition says of none is what the intake comes to.
 use Prim.Native.Nat.{ℕ, suc, _-_}
 use mathlib.Core.Path.{_≡_, refl, ap, ap₂, _∙_}
 use mathlib.Core.Bool.{Bool, true, false}
@@ -20,20 +20,20 @@ use Rattle.intake.proofs.Sound.{Sound, next-shape}
 use Rattle.intake.proofs.Resume.{begun, fromHere, resume, resume-many, resume-bad, resume-start, resume-here}
 
 module _ (i : Intake) (room : List ℤ) (s : Sound i (length room)) where
-  -- numbers of the latest table are missing
+  -- where numbers of the latest table are missing, the text is bad
   end-number : eqb (i .left) 0 ≡ false → fromHere i room [] ≡ bad
   end-number h =
       let l : i .left ≡ suc (i .left - 1) = omega (arith, eqb-false (i .left) 0 h) in
       ap (λ (k : ℕ). going k (drop (i .table) shapes) (begun i room) (i .start) []) l
 
   module _ (h : eqb (i .left) 0 ≡ true) where
-    -- a table is missing
+    -- where a table is missing, the text is bad
     end-table : eqb (i .table) tableCount ≡ false → fromHere i room [] ≡ bad
     end-table t =
         ap₂ (λ (k : ℕ) (ss : List Shape). going k ss (begun i room) (i .start) []) (eqb-true (i .left) 0 h)
         (next-shape (i .table) (omega (arith, s .few, eqb-false (i .table) tableCount t)))
 
-    -- nothing is missing
+    -- where nothing is missing, the program was read
     end-whole : eqb (i .table) tableCount ≡ true → fromHere i room [] ≡ got (tablesRead (fed i room)) []
     end-whole t =
         let so-far = take (i .at) room in
@@ -45,7 +45,7 @@ module _ (i : Intake) (room : List ℤ) (s : Sound i (length room)) where
         (pieces-within i so-far [] (drop (i .at) room) tableCount (λ k b. omega (arith, s .apart k (omega (arith, all, b)), filled, none-left))
         ∙ ap (λ (l : List ℤ). pieces (piece i l) tableCount) (take-append-drop (i .at) room))
 
-  -- the start mode was read, and nothing refused
+  -- where the start mode was read and nothing refused, what is heard is what the definition says of no lines left
   end-here : i .«too_many» ≡ false → i .bad ≡ false → i .started ≡ true → fromHere i room [] ≡ heard (fed i room)
   unfolding heard isComplete
   end-here m b e = go (eqb (i .left) 0) refl (eqb (i .table) tableCount) refl
@@ -56,7 +56,7 @@ module _ (i : Intake) (room : List ℤ) (s : Sound i (length room)) where
       go false h true t = simp (m, b, e, h, t) (end-number h)
       go false h false t = simp (m, b, e, h, t) (end-number h)
 
-  -- whatever is known
+  -- what is heard is what the definition says of no lines left, whatever is known
   pub resume-end : resume (fed i room) [] ≡ heard (fed i room)
   unfolding heard isComplete
   resume-end = go (i .«too_many») refl (i .bad) refl (i .started) refl

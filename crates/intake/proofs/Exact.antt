@@ -1,4 +1,4 @@
--- The intake hears exactly what the definition says of the text, and as soon as the text is decided. Assumes nothing.
+-- The intake hears exactly what the definition says of the text, and as soon as the text is decided.
 use Prim.Native.Nat.{ℕ}
 use mathlib.Core.Path.{_≡_, refl, sym, ap, _∙_}
 use mathlib.Core.List.{List, [], _++_}
@@ -30,22 +30,22 @@ sound-fresh room h =
       enough = omega arith;
     }
 
--- and all lines are left
+-- at the start all lines are left
 all-left : (room : List ℤ) (text : List ℕ) → resume (fed startIntake room) (numbersOf (lines text)) ≡ program text
 unfolding resume
 all-left room text = refl
 
--- a whole text
+-- what is heard of a whole text is what the definition says of it
 pub reads-exactly : ReadsExactly
 reads-exactly room h text = text-heard text (fed startIntake room) [] tt (sound-fresh room h) refl ∙ all-left room text
 
--- a text of which some was read, and that is decided
+-- what was heard of a text that is decided is what the definition says of it, whatever follows
 pub decides-at-once : DecidesAtOnce
 decides-at-once room h text more d =
     sym (decided-stays (takenIn room text) d more)
     ∙ ap (λ (f : Fed). heard (endedOf f)) (cut-anywhere (fed startIntake room) text more)
     ∙ reads-exactly room h (text ++ more)
 
--- an instance of the premise: a room of zeros
+-- a room of zeros has a place for every number: an instance of the premise
 zeros-roomy : Roomy (replicate wholeRoom (pos 0))
 zeros-roomy = omega (arith, length-replicate wholeRoom (pos 0))

@@ -1,5 +1,4 @@
 -- In the middle of a text that is not decided yet: what one line more does, and what the definition says of it, are the same.
--- Assumes nothing.
 use Prim.Native.Nat.{ℕ, suc, _+_, _-_, _*_, _<_, _≤_}
 use mathlib.Core.Path.{_≡_, sym, ap, ap₂, _∙_}
 use mathlib.Core.List.{List, [], _∷_, _++_, append-assoc}
@@ -21,7 +20,7 @@ use Rattle.intake.proofs.Sound.{Sound, next-shape, sound-place}
 use Rattle.intake.proofs.Resume.{begun, fromHere}
 
 module _ (i : Intake) (room : List ℤ) (rest : List (Option ℤ)) (s : Sound i (length room)) where
-  -- a number of the latest table
+  -- a number of the latest table is stored, and the definition goes on with the rest
   pub here-number : (z : ℤ) → 0 < i .left → fromHere (withNumber i) (set room (i .at) z) rest ≡ fromHere i room (some z ∷ rest)
   here-number z h =
       let l : i .left ≡ suc (i .left - 1) = omega arith in
@@ -49,7 +48,7 @@ module _ (i : Intake) (room : List ℤ) (rest : List (Option ℤ)) (s : Sound i 
         let l : i .left ≡ 0 = omega arith in
         ap₂ (λ (k : ℕ) (ss : List Shape). going k ss (begun i room) (i .start) (some z ∷ rest)) l (next-shape (i .table) next)
 
-    -- a row count within the limit
+    -- a row count within the limit begins the next table
     pub here-within : (n : ℕ) → n ≤ shapeAt (i .table) .limit
         → fromHere (withTable i (n * shapeAt (i .table) .width)) room rest ≡ fromHere i room (some (pos n) ∷ rest)
     here-within n h =
@@ -68,12 +67,12 @@ module _ (i : Intake) (room : List ℤ) (rest : List (Option ℤ)) (s : Sound i 
             ∙ ap (λ (ts : List (List ℤ)). ts ++ (zs ∷ []))
             (pieces-within i so-far zs [] (i .table) (λ k b. omega (arith, s .apart k b, filled)))
 
-    -- past it
+    -- a row count past the limit decides
     pub here-past : (n : ℕ) → shapeAt (i .table) .limit < n → fromHere i room (some (pos n) ∷ rest) ≡ tooMany
     here-past n h =
         opening (pos n) ∙ going-past (i .start) rest (shapeAt (i .table)) (drop (i .table + 1) shapes) (begun i room) n h
 
-    -- below 0
+    -- a row count below 0 decides
     pub here-negative : (n : ℕ) → fromHere i room (some (negsuc n) ∷ rest) ≡ tooMany
     here-negative n = opening (negsuc n)
 

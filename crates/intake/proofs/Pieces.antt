@@ -1,5 +1,5 @@
 -- The tables as they lie in the room, one after the other: what stands past them does not matter, and where they begin and how many
--- numbers they have decides. Assumes nothing.
+-- numbers they have decides.
 use Prim.Native.Nat.{ℕ, zero, suc, _+_, _<_, _≤_}
 use mathlib.Core.Path.{_≡_, refl, sym, ap, ap₂, _∙_}
 use mathlib.Core.List.{List, [], _∷_, _++_}
@@ -16,7 +16,7 @@ abbrev pub pieces : (ℕ → List ℤ) → ℕ → List (List ℤ)
 pieces t zero = []
 pieces t (suc k) = pieces t k ++ (t k ∷ [])
 
--- tables that are the same one by one
+-- tables that are the same one by one are the same together
 pub pieces-same : (t u : ℕ → List ℤ) (n : ℕ) → ((k : ℕ) → k < n → t k ≡ u k) → pieces t n ≡ pieces u n
 pieces-same t u zero e = refl
 pieces-same t u (suc n) e =
@@ -34,7 +34,7 @@ piece-within i l more k h =
     ap (take n) (drop-append-le from l more (omega arith))
     ∙ take-append-le n (drop from l) more (simp length-drop (omega arith))
 
--- so what stands behind may be anything
+-- tables that end within a room do not see what stands behind it
 pub pieces-within : (i : Intake) (l more other : List ℤ) (n : ℕ) → ((k : ℕ) → k < n → endOf i k ≤ length l)
     → pieces (piece i (l ++ more)) n ≡ pieces (piece i (l ++ other)) n
 pieces-within i l more other n h =
@@ -44,14 +44,14 @@ pieces-within i l more other n h =
 -- the next table begins at the end of the room, and its numbers stand behind
 module _ (i : Intake) (l zs : List ℤ) (n : ℕ) (here : length l ≡ i .at) (many : length zs ≡ n)
     (begins : i .table < length (i .begins)) (lens : i .table < length (i .lens)) where
-  -- the tables before it stay
+  -- the tables before the next one stay as they are
   earlier : (k : ℕ) → k < i .table → piece (withTable i n) (l ++ zs) k ≡ piece i (l ++ zs) k
   earlier k h =
       ap₂ (λ (m from : ℕ). take m (drop from (l ++ zs)))
       (getD-set-other (i .lens) (i .table) k n 0 (λ e. omega (arith, e)))
       (getD-set-other (i .begins) (i .table) k (i .at) 0 (λ e. omega (arith, e)))
 
-  -- it has these numbers
+  -- the next table has the numbers that stand behind
   latest : piece (withTable i n) (l ++ zs) (i .table) ≡ zs
   latest =
       ap₂ (λ (m from : ℕ). take m (drop from (l ++ zs))) (getD-set-same (i .lens) (i .table) n 0 lens)
@@ -59,7 +59,7 @@ module _ (i : Intake) (l zs : List ℤ) (n : ℕ) (here : length l ≡ i .at) (m
       ∙ ap (take n) (drop-at l zs (i .at) here)
       ∙ take-all n zs (omega arith)
 
-  -- together
+  -- the tables with the next one are those before it and its numbers
   pub pieces-more : pieces (piece (withTable i n) (l ++ zs)) (suc (i .table)) ≡ pieces (piece i (l ++ zs)) (i .table) ++ (zs ∷ [])
   pieces-more =
       ap₂ (λ (ts : List (List ℤ)) (t : List ℤ). ts ++ (t ∷ []))

@@ -1,5 +1,4 @@
 -- What the definition says of the lines that are left, in the middle of a table, and how one line more shortens it.
--- Assumes nothing.
 use Prim.Native.Nat.{ℕ, zero, suc, _*_, _≤_, _<_}
 use mathlib.Core.Path.{_≡_, refl, sym, ap, _∙_}
 use mathlib.Core.Bool.{Bool, true, false}
@@ -11,21 +10,21 @@ use borrow.Author.Tests.{le-leb, lt-leb}
 use Rattle.program.specs.Tables.{Tables}
 use Rattle.text.specs.Input.{Read, bad, tooMany, got, then, several, table, Shape, allOf, placed, ended}
 
--- what follows what follows
+-- reading on twice is reading on once with both
 then-after : {A B C : Type 0} (r : Read A) (g : A → List (Option ℤ) → Read B) (h : B → List (Option ℤ) → Read C)
     → then (then r g) h ≡ then r (λ a rest. then (g a rest) h)
 then-after bad g h = refl
 then-after tooMany g h = refl
 then-after (got a rest) g h = refl
 
--- what follows may be said in two ways
+-- reading on in two ways that say the same comes to the same
 then-same : {A B : Type 0} (r : Read A) (g h : A → List (Option ℤ) → Read B)
     → ((a : A) (rest : List (Option ℤ)) → g a rest ≡ h a rest) → then r g ≡ then r h
 then-same bad g h e = refl
 then-same tooMany g h e = refl
 then-same (got a rest) g h e = e a rest
 
--- after n numbers it need be the same for n numbers only
+-- after n numbers two ways of reading on need say the same for n numbers only
 several-same : {B : Type 0} (n : ℕ) (rest : List (Option ℤ)) (g h : List ℤ → List (Option ℤ) → Read B)
     → ((zs : List ℤ) → length zs ≡ n → (more : List (Option ℤ)) → g zs more ≡ h zs more)
     → then (several n rest) g ≡ then (several n rest) h
@@ -37,22 +36,22 @@ several-same (suc n) (some z ∷ rest) g h e =
     ∙ several-same n rest (λ zs last. g (z ∷ zs) last) (λ zs last. h (z ∷ zs) last) (λ zs l more. e (z ∷ zs) (ap suc l) more)
     ∙ sym (then-after (several n rest) (λ zs last. got (z ∷ zs) last) h)
 
--- the tables of these shapes after those that are done, then nothing
+-- reading the tables of these shapes after those that are done, and then nothing
 abbrev pub finish : List Shape → ℤ → List (List ℤ) → List (Option ℤ) → Read Tables
 finish ss start done more = then (allOf ss more) (λ ts last. ended (placed start (done ++ ts)) last)
 
--- first so many numbers of the latest table: `done` are the tables up to it, by the numbers that are still to come
+-- reading so many numbers of the latest table first: `done` are the tables up to it, by the numbers still to come
 abbrev pub going : ℕ → List Shape → (List ℤ → List (List ℤ)) → ℤ → List (Option ℤ) → Read Tables
 going left ss done start rest = then (several left rest) (λ zs more. finish ss start (done zs) more)
 
 module _ (start : ℤ) (rest : List (Option ℤ)) where
-  -- no number
+  -- a line that is no number leaves the text bad
   pub going-none : (left : ℕ) (ss : List Shape) (done : List ℤ → List (List ℤ)) → going left ss done start (none ∷ rest) ≡ bad
   going-none zero [] done = refl
   going-none zero (s ∷ ss) done = refl
   going-none (suc left) ss done = refl
 
-  -- a number of the latest table
+  -- a number of the latest table is one less to come
   pub going-number : (left : ℕ) (ss : List Shape) (done : List ℤ → List (List ℤ)) (z : ℤ)
       → going (suc left) ss done start (some z ∷ rest) ≡ going left ss (λ zs. done (z ∷ zs)) start rest
   going-number left ss done z =
@@ -65,22 +64,22 @@ module _ (start : ℤ) (rest : List (Option ℤ)) where
       several-same left rest (λ zs more. finish ss start (done zs) more) (λ zs more. finish ss start (other zs) more)
       (λ zs l more. ap (λ (d : List (List ℤ)). finish ss start d more) (e zs l))
 
-  -- a row count within the limit
+  -- a row count within the limit is followed by so many rows
   within : (width limit n : ℕ) → n ≤ limit → table width limit (some (pos n) ∷ rest) ≡ several (n * width) rest
   within width limit n h =
       ap (λ (b : Bool). elim b [ true ↦ several (n * width) rest | false ↦ tooMany ]) (le-leb n limit h)
 
-  -- a row count past it
+  -- a row count past the limit decides
   past : (width limit n : ℕ) → limit < n → table width limit (some (pos n) ∷ rest) ≡ tooMany
   past width limit n h =
       ap (λ (b : Bool). elim b [ true ↦ several (n * width) rest | false ↦ tooMany ]) (lt-leb n limit h)
 
   module _ (s : Shape) (ss : List Shape) (done : List ℤ → List (List ℤ)) (n : ℕ) where
-    -- a table, then those after it
+    -- reading the tables after a table, and putting it in front of them
     abbrev others : List ℤ → List (Option ℤ) → Read (List (List ℤ))
     others t more = then (allOf ss more) (λ ts last. got (t ∷ ts) last)
 
-    -- what follows them
+    -- what is read after all tables
     abbrev after : List (List ℤ) → List (Option ℤ) → Read Tables
     after ts last = ended (placed start (done [] ++ ts)) last
 
@@ -100,6 +99,6 @@ module _ (start : ℤ) (rest : List (Option ℤ)) where
         ∙ then-after rows others after
         ∙ then-same rows (λ t more. then (others t more) after) (λ t more. finish ss start (done [] ++ (t ∷ [])) more) one-more
 
-    -- a row count past it decides
+    -- a row count past the limit decides, with a table to come
     pub going-past : s .limit < n → going 0 (s ∷ ss) done start (some (pos n) ∷ rest) ≡ tooMany
     going-past h = ap (λ (r : Read (List ℤ)). then (then r others) after) (past (s .width) (s .limit) n h)

@@ -1,5 +1,4 @@
 -- The shape of a table by its number: as the code has it, none past the last table, and small enough that no product wraps.
--- Assumes nothing.
 use Prim.Native.Nat.{ℕ, _*_, _≤_}
 use mathlib.Core.Path.{_≡_}
 use mathlib.Core.List.{map}
@@ -18,12 +17,12 @@ pub width-at : (k : ℕ) → getD (map (λ (s : Shape). s .width) shapes) k 0 �
 unfolding shapeAt
 width-at k = List·getD-map (λ (s : Shape). s .width) shapes k noShape
 
--- and so is its limit
+-- the limit of a table is that of the code's list
 pub limit-at : (k : ℕ) → getD (map (λ (s : Shape). s .limit) shapes) k 0 ≡ shapeAt k .limit
 unfolding shapeAt
 limit-at k = List·getD-map (λ (s : Shape). s .limit) shapes k noShape
 
--- past the last table there is none
+-- past the last table there is no shape
 pub shape-past : (k : ℕ) → tableCount ≤ k → shapeAt k ≡ noShape
 unfolding shapeAt
 shape-past k h = List·getD-eq-default shapes noShape h
@@ -32,11 +31,11 @@ shape-past k h = List·getD-eq-default shapes noShape h
 abbrev Small : Shape → Type 0
 Small s = (s .width ≤ widest) × (s .limit ≤ maxCopies)
 
--- true of all ten
+-- none of the ten tables has more columns or rows than these
 all-small : Every Small shapes
 all-small = search arith
 
--- and of every number
+-- no table has more columns or rows than these, whatever its number
 pub shape-small : (k : ℕ) → Small (shapeAt k)
 unfolding shapeAt
 shape-small k = every-at Small shapes noShape (omega arith, omega arith) all-small k

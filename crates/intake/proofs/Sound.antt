@@ -1,5 +1,4 @@
 -- What holds of the intake after any lines: the tables lie in the room one after the other, and there is room for those to come.
--- Assumes nothing.
 use Prim.Native.Nat.{ℕ, _+_, _*_, _<_, _≤_}
 use mathlib.Core.Path.{_≡_, refl, ap, _∙_}
 use mathlib.Core.Bool.{true, false}
@@ -29,23 +28,23 @@ pub record Sound (i : Intake) (n : ℕ) : Type 0 where
   pub apart : (k : ℕ) → k < i .table → endOf i k ≤ i .at + i .left
   pub enough : i .at + i .left + roomFor (drop (i .table) shapes) ≤ n
 
--- the next table and those after it
+-- the shapes that are left are that of the next table and those after it
 pub next-shape : (k : ℕ) → k < tableCount → drop k shapes ≡ shapeAt k ∷ drop (k + 1) shapes
 unfolding shapeAt
 next-shape k h = rw (add-one k) (drop-cons shapes k noShape h)
 
 module _ (i : Intake) (n : ℕ) (s : Sound i n) where
-  -- a bad text
+  -- the intake of a bad text is sound
   pub sound-bad : Sound (asBad i) n
   sound-bad =
       record { fresh = s .fresh; few = s .few; begins-all = s .begins-all; lens-all = s .lens-all; apart = s .apart; enough = s .enough }
 
-  -- a count out of its limit
+  -- the intake of a text with a count out of its limit is sound
   pub sound-many : Sound (asTooMany i) n
   sound-many =
       record { fresh = s .fresh; few = s .few; begins-all = s .begins-all; lens-all = s .lens-all; apart = s .apart; enough = s .enough }
 
-  -- the start mode
+  -- the intake after the start mode is sound
   pub sound-start : (z : ℤ) → Sound (withStart i z) n
   sound-start z =
       record {
@@ -61,7 +60,7 @@ module _ (i : Intake) (n : ℕ) (s : Sound i n) where
   pub sound-place : 0 < i .left → i .at < n
   sound-place h = omega (arith, s .enough)
 
-  -- and is one less to come
+  -- the intake after a number of the latest table is sound
   pub sound-number : 0 < i .left → i .started ≡ true → Sound (withNumber i) n
   sound-number h e =
       record {
@@ -73,14 +72,14 @@ module _ (i : Intake) (n : ℕ) (s : Sound i n) where
         enough = omega (arith, s .enough);
       }
 
-  -- a row count within the limit
+  -- the next table has a row count within the limit
   module _ (rows : ℕ) (next : i .table < tableCount) (none-left : i .left ≤ 0) (e : i .started ≡ true)
       (h : rows ≤ shapeAt (i .table) .limit) where
-    -- the table has so many numbers
+    -- how many numbers the next table has
     abbrev numbers : ℕ
     numbers = rows * shapeAt (i .table) .width
 
-    -- its end is the end of all
+    -- every table that was begun ends no later than the next one
     apart-more : (k : ℕ) → k < i .table + 1 → endOf (withTable i numbers) k ≤ i .at + numbers
     apart-more k b = go (decLt k (i .table))
       where
@@ -95,7 +94,7 @@ module _ (i : Intake) (n : ℕ) (s : Sound i n) where
             let many = getD-set-same (i .lens) (i .table) numbers 0 (omega (arith, s .lens-all)) in
             rw q (omega (arith, at, many))
 
-    -- and there is room for the tables after it
+    -- the intake after a row count within the limit is sound: there is room for the tables to come
     pub sound-table : Sound (withTable i numbers) n
     sound-table =
         record {

@@ -1,5 +1,5 @@
 -- The bytes of a text: after any of them, with a line begun, what is still to be heard is what the definition says of that line and
--- the rest of the text. Assumes nothing.
+-- the rest of the text.
 use Prim.Native.Nat.{ℕ}
 use mathlib.Core.Path.{_≡_, refl, sym, ap, subst, _∙_}
 use mathlib.Core.Bool.{Bool, true, false}
@@ -32,12 +32,12 @@ sound-part : (f : Fed) (p : Part) → SoundFed f → SoundFed (atPart f p)
 sound-part f p s =
     record { fresh = s .fresh; few = s .few; begins-all = s .begins-all; lens-all = s .lens-all; apart = s .apart; enough = s .enough }
 
--- nor for what the definition says of the lines that are left
+-- what was read of a line does not matter for what the definition says of the lines that are left
 resume-part : (f : Fed) (p : Part) (rest : List (Option ℤ)) → resume (atPart f p) rest ≡ resume f rest
 unfolding resume
 resume-part f p rest = refl
 
--- the end of a line
+-- at the end of a line its number is taken as the definition says
 line-follows : (f : Fed) (l : List ℕ) → SoundFed f → f .intake .part ≡ partOf l → Follows f (number l) (lineEnd f)
 unfolding lineEnd
 line-follows f l s e =
@@ -48,7 +48,7 @@ line-follows f l s e =
       says = λ rest. resume-part (tookOf f (signedAs (number l))) startPart rest ∙ step .says rest;
     })
 
--- the end of the text
+-- at the end of the text what is heard is what the definition says of the last line
 ended-heard : (f : Fed) (l : List ℕ) → NoEnd l → SoundFed f → f .intake .part ≡ partOf l
     → heard (endedOf f) ≡ resume f (numbersOf (lines l))
 unfolding endedOf
@@ -61,7 +61,7 @@ ended-heard f (b ∷ l) h s e =
     ∙ step .says []
     ∙ ap (λ (ls : List (List ℕ)). resume f (numbersOf ls)) (sym (lines-last b l h))
 
--- with a line begun, the rest of the text
+-- with a line begun, what is heard after the rest of the text is what the definition says of both
 abbrev pub Hears : List ℕ → Type 0
 Hears text = (f : Fed) (l : List ℕ) → NoEnd l → SoundFed f → f .intake .part ≡ partOf l
     → heard (endedOf (fedAll f text)) ≡ resume f (numbersOf (lines (l ++ text)))
@@ -69,7 +69,7 @@ Hears text = (f : Fed) (l : List ℕ) → NoEnd l → SoundFed f → f .intake .
 -- one byte more, where the bytes after it are heard
 module _ (b : ℕ) (bs : List ℕ) (ih : Hears bs) (f : Fed) (l : List ℕ) (h : NoEnd l) (s : SoundFed f)
     (e : f .intake .part ≡ partOf l) where
-  -- a line end
+  -- a line end is heard as the definition says
   hears-end : eqb b newline ≡ true → heard (endedOf (fedAll (fedOf f b) bs)) ≡ resume f (numbersOf (lines (l ++ (b ∷ bs))))
   unfolding fedOf lineEnd
   hears-end t =
@@ -81,7 +81,7 @@ module _ (b : ℕ) (bs : List ℕ) (ih : Hears bs) (f : Fed) (l : List ℕ) (h :
       ∙ ap (λ (ls : List (List ℕ)). resume f (numbersOf ls)) (sym (lines-ended l bs h))
       ∙ ap (λ (c : ℕ). resume f (numbersOf (lines (l ++ (c ∷ bs))))) (sym (eqb-true b newline t))
 
-  -- a byte of the line
+  -- a byte of the line is heard as the definition says
   hears-byte : eqb b newline ≡ false → heard (endedOf (fedAll (fedOf f b) bs)) ≡ resume f (numbersOf (lines (l ++ (b ∷ bs))))
   unfolding fedOf
   hears-byte t =
@@ -93,7 +93,7 @@ module _ (b : ℕ) (bs : List ℕ) (ih : Hears bs) (f : Fed) (l : List ℕ) (h :
       ∙ resume-part f (partAfter (f .intake .part) b) (numbersOf (lines ((l ++ (b ∷ [])) ++ bs)))
       ∙ ap (λ (m : List ℕ). resume f (numbersOf (lines m))) (append-assoc l (b ∷ []) bs)
 
-  -- either
+  -- one byte more is heard as the definition says
   hears-more : heard (endedOf (fedAll (fedOf f b) bs)) ≡ resume f (numbersOf (lines (l ++ (b ∷ bs))))
   hears-more = go (eqb b newline) refl
     where
@@ -101,7 +101,7 @@ module _ (b : ℕ) (bs : List ℕ) (ih : Hears bs) (f : Fed) (l : List ℕ) (h :
       go true t = hears-end t
       go false t = hears-byte t
 
--- all bytes
+-- all bytes of a text are heard as the definition says
 pub text-heard : (text : List ℕ) → Hears text
 text-heard [] = λ f l h s e. ended-heard f l h s e ∙ ap (λ (m : List ℕ). resume f (numbersOf (lines m))) (sym (append-nil l))
 text-heard (b ∷ bs) = hears-more b bs (text-heard bs)

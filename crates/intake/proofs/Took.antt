@@ -1,4 +1,4 @@
--- One line more, whatever it says and whatever was read before it. Assumes nothing.
+-- One line more, whatever it says and whatever was read before it.
 use Prim.Native.Nat.{ℕ, _<_}
 use mathlib.Core.Path.{_≡_, refl, sym, ap, ap₂, subst, _∙_}
 use mathlib.Core.Bool.{Bool, true, false, _||_, or-true}
@@ -26,13 +26,13 @@ module _ (i : Intake) (room : List ℤ) (s : Sound i (length room)) where
   abbrev Taken : Option ℤ → Type 0
   Taken x = Follows (fed i room) x (tookOf (fed i room) (signedAs x))
 
-  -- what is decided stays
+  -- where the text is decided, a line is taken as the definition says: nothing changes
   stays : (x : Option ℤ) → isDecided i ≡ true → ((rest : List (Option ℤ)) → resume (fed i room) rest ≡ resume (fed i room) (x ∷ rest)) → Taken x
   stays x d e = subst (Follows (fed i room) x) (sym (took-decided i room (signedAs x) d)) (record { sound = s; says = e })
 
-  -- not decided yet
+  -- the text is not decided yet
   module _ (m : i .«too_many» ≡ false) (b : i .bad ≡ false) where
-    -- neither decides
+    -- a text that is not bad and has no count out of its limit is not decided
     undecided : isDecided i ≡ false
     unfolding isDecided
     undecided = simp (m, b) refl
@@ -43,13 +43,13 @@ module _ (i : Intake) (room : List ℤ) (s : Sound i (length room)) where
         resume-here i room (none ∷ rest) m b e ∙ going-none (i .start) rest (i .left) (drop (i .table) shapes) (begun i room)
     none-says false e rest = resume-start i room (none ∷ rest) m b e
 
-    -- no number
+    -- a line that is no number is taken as the definition says
     no-number : Taken none
     no-number =
         subst (Follows (fed i room) none) (sym (took-none i room (signedAs none) undecided refl))
         (refused i room s m none (none-says (i .started) refl))
 
-    -- the start mode
+    -- the start mode is taken as the definition says
     starts : (z : ℤ) → i .started ≡ false → Taken (some z)
     starts z e =
         subst (Follows (fed i room) (some z)) (sym (took-start i room (signedAs (some z)) undecided refl e))
@@ -62,7 +62,7 @@ module _ (i : Intake) (room : List ℤ) (s : Sound i (length room)) where
             (s .fresh e .1) (s .fresh e .0)
             ∙ sym (resume-start i room (some z ∷ rest) m b e)
 
-    -- a line in the middle of the text
+    -- a line in the middle of the text is taken as the definition says
     fills : (z : ℤ) → i .started ≡ true → Taken (some z)
     fills z e = go (decLt 0 (i .left))
       where
@@ -73,7 +73,7 @@ module _ (i : Intake) (room : List ℤ) (s : Sound i (length room)) where
             subst (Follows (fed i room) (some z)) (sym (took-count i room (signedAs (some z)) undecided refl e (omega arith)))
             (counts i room s m b e z (omega arith))
 
-    -- either
+    -- a line of a text that is not decided is taken as the definition says
     takes : (x : Option ℤ) → Taken x
     takes none = no-number
     takes (some z) = go (i .started) refl
@@ -82,7 +82,7 @@ module _ (i : Intake) (room : List ℤ) (s : Sound i (length room)) where
         go false e = starts z e
         go true e = fills z e
 
-  -- any line
+  -- any line is taken as the definition says
   pub took-follows : (x : Option ℤ) → Follows (fed i room) x (tookOf (fed i room) (signedAs x))
   unfolding isDecided
   took-follows x = go (i .«too_many») refl (i .bad) refl

@@ -1,5 +1,5 @@
 -- The intake of a text: what is known after some of its bytes, at the start and with some of its fields changed. It is the code's
--- own struct. Assumes nothing.
+-- own struct.
 use Prim.Native.Nat.{ℕ, _+_, _-_}
 use mathlib.Core.Bool.{true, false}
 use lib.IntN.{ℤ, pos}
@@ -9,7 +9,7 @@ use Rattle.text.specs.Part.{startPart}
 use Rattle.text.specs.declared.number.Part.{Part}
 use Rattle.intake.specs.declared.state.Intake.{Intake}
 
--- nothing was read yet
+-- the intake of a text of which nothing was read yet
 abbrev pub startIntake : Intake
 startIntake = record {
   part = startPart;
@@ -24,7 +24,7 @@ startIntake = record {
   lens = replicate tableCount 0;
 }
 
--- another part of a line
+-- the intake with another part of a line
 abbrev pub withPart : Intake → Part → Intake
 withPart i p = record {
   part = p;
@@ -39,7 +39,7 @@ withPart i p = record {
   lens = i .lens;
 }
 
--- the text is bad
+-- the intake of a text that is bad
 abbrev pub asBad : Intake → Intake
 asBad i = record {
   part = i .part;
@@ -54,7 +54,7 @@ asBad i = record {
   lens = i .lens;
 }
 
--- a count is out of its limit
+-- the intake of a text with a count out of its limit
 abbrev pub asTooMany : Intake → Intake
 asTooMany i = record {
   part = i .part;
@@ -69,7 +69,7 @@ asTooMany i = record {
   lens = i .lens;
 }
 
--- the start mode was read
+-- the intake after the start mode was read
 abbrev pub withStart : Intake → ℤ → Intake
 withStart i z = record {
   part = i .part;
@@ -84,7 +84,7 @@ withStart i z = record {
   lens = i .lens;
 }
 
--- a number of the latest table was put at the next free place
+-- the intake after a number of the latest table was put at the next free place
 abbrev pub withNumber : Intake → Intake
 withNumber i = record {
   part = i .part;
@@ -99,7 +99,7 @@ withNumber i = record {
   lens = i .lens;
 }
 
--- the next table has so many numbers, and begins at the next free place
+-- the intake with one table more, which has so many numbers and begins at the next free place
 abbrev pub withTable : Intake → ℕ → Intake
 withTable i n = record {
   part = i .part;

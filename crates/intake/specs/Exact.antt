@@ -1,5 +1,5 @@
 -- What is promised of the intake: it hears exactly what the definition `program` says of the text, however the input is cut and
--- whatever the room held before; and a caller may stop as soon as the text is decided. Assumes nothing.
+-- whatever the room held before; and a caller may stop as soon as the text is decided.
 use Prim.Native.Nat.{ℕ, _≤_}
 use mathlib.Core.Path.{_≡_}
 use mathlib.Core.Bool.{true}
@@ -17,11 +17,11 @@ use Rattle.intake.specs.Heard.{heard}
 abbrev pub Roomy : List ℤ → Type 0
 Roomy room = wholeRoom ≤ length room
 
--- such a room, before anything is read
+-- a room with a place for every number of the largest program, before anything is read
 abbrev pub emptyRoom : List ℤ
 emptyRoom = replicate wholeRoom (pos 0)
 
--- a text, from its first byte on, into this room
+-- what is known of a text after all of its bytes, read into this room
 abbrev pub takenIn : List ℤ → List ℕ → Fed
 takenIn room text = fedAll (fed startIntake room) text
 
@@ -37,7 +37,7 @@ CutAnywhere = (f : Fed) (first second : List ℕ) → fedAll (fedAll f first) se
 abbrev pub DecidedStays : Type 0
 DecidedStays = (f : Fed) → isDecided (f .intake) ≡ true → (more : List ℕ) → heard (endedOf (fedAll f more)) ≡ heard f
 
--- so that what was heard by then is what the definition says of the text, whatever follows
+-- once the text is decided, what was heard is what the definition says of the text, whatever follows
 abbrev pub DecidesAtOnce : Type 0
 DecidesAtOnce = (room : List ℤ) → Roomy room → (text more : List ℕ)
     → isDecided (takenIn room text .intake) ≡ true → heard (takenIn room text) ≡ program (text ++ more)

@@ -1,4 +1,4 @@
--- What the intake comes to: the program that was read, or why there is none. Assumes nothing.
+-- What the intake comes to: the program that was read, or why there is none.
 use Prim.Native.Nat.{ℕ}
 use mathlib.Core.Bool.{cond}
 use mathlib.Core.List.{List, []}
@@ -13,12 +13,12 @@ use Rattle.intake.specs.declared.state.Intake.{Intake}
 abbrev pub piece : Intake → List ℤ → ℕ → List ℤ
 piece i room k = take (getD (i .lens) k 0) (drop (getD (i .begins) k 0) room)
 
--- the ten tables and the start mode
+-- the program that was read: the ten tables in the room, and the start mode
 abbrev pub tablesRead : Fed → Tables
 tablesRead f =
     let t = piece (f .intake) (f .room) in
     tables (t 0) (t 1) (t 2) (t 3) (t 4) (t 5) (t 6) (t 7) (t 8) (t 9) (f .intake .start)
 
--- a text that is complete is a program; of the others a count was out of its limit, or the text is bad
+-- what is heard of a text: a program where it is complete, else that a count was out of its limit or that it is bad
 unfoldable pub heard : Fed → Read Tables
 heard f = cond (isComplete (f .intake)) (got (tablesRead f) []) (cond (f .intake .«too_many») tooMany bad)

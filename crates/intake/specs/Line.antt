@@ -1,5 +1,4 @@
 -- The intake after one line more: the start mode, a row count, or a number of a table, which goes into the room.
--- Assumes nothing.
 use Prim.Native.Nat.{_*_}
 use mathlib.Core.Bool.{Bool, not, cond, _&&_, _||_}
 use mathlib.Core.List.{List}
@@ -18,25 +17,25 @@ pub record Fed : Type 0 where
   pub intake : Intake
   pub room : List ℤ
 
--- both put together
+-- an intake and its room put together
 abbrev pub fed : Intake → List ℤ → Fed
 fed i room = record { intake = i; room = room }
 
--- more bytes change nothing
+-- the text is decided: more bytes change nothing
 unfoldable pub isDecided : Intake → Bool
 isDecided i = i .bad || i .«too_many»
 
--- the last row was read, and nothing after it
+-- the text is complete: the last row was read, and nothing after it
 unfoldable pub isComplete : Intake → Bool
 isComplete i = not (i .bad) && not (i .«too_many») && i .started && eqb (i .table) tableCount && eqb (i .left) 0
 
--- a number of the latest table, at the next free place; without one the room is too short, and the text refused
+-- after a number of the latest table: it stands at the next free place; without one the text is refused
 unfoldable pub storedOf : Fed → ℤ → Fed
 storedOf f z =
     let i = f .intake in
     cond (ltb (i .at) (length (f .room))) (fed (withNumber i) (set (f .room) (i .at) z)) (fed (asBad i) (f .room))
 
--- the row count of the next table; a negative one is out of every range, and nothing may follow the last table
+-- after the row count of the next table: a negative one is out of every range, and nothing may follow the last table
 unfoldable pub countedOf : Intake → ℤ → Intake
 countedOf i z =
     let rows = indexOf z in
@@ -44,7 +43,7 @@ countedOf i z =
     cond (leb tableCount (i .table)) (asBad i)
     (cond (leb rows (shape .limit)) (withTable i (rows * shape .width)) (asTooMany i))
 
--- a whole line; what is decided stays
+-- after a whole line: what is decided stays
 unfoldable pub tookOf : Fed → Signed → Fed
 tookOf f number =
     let i = f .intake in

@@ -5,10 +5,10 @@ ghost use Rattle.intake.specs.Bytes.{lineEnd, fedOf, fedAll, endedOf};
 use crate::state::Intake;
 use text::number::Part;
 
-// It ends a line.
+// The byte that ends a line.
 const NEWLINE: u8 = b'\n';
 
-// The end of a line: its number is taken, and a new line begins.
+// What is known of the text after the end of a line: its number is taken, and a new line begins.
 fn line_end(i: Intake, room: &mut [i32]) -> Intake
     ensures { λ r. ⌜ fed r (now (room .exit)) ≡ lineEnd (fed i (now (room .entry))) ⌝ }
 {
@@ -20,7 +20,7 @@ fn line_end(i: Intake, room: &mut [i32]) -> Intake
 }
 
 impl Intake {
-    // One byte more: a line end, or a byte of the line.
+    // What is known of the text after one byte more: a line end, or a byte of the line.
     pub fn feed(self, b: u8, room: &mut [i32]) -> Intake
         ensures { λ r. ⌜ fed r (now (room .exit)) ≡ fedOf (fed self (now (room .entry))) b ⌝ }
     {
@@ -34,7 +34,7 @@ impl Intake {
         next
     }
 
-    // All of these bytes.
+    // What is known of the text after all of these bytes.
     pub fn feed_all(self, bytes: &[u8], room: &mut [i32]) -> Intake
         ensures { λ r. ⌜ fed r (now (room .exit)) ≡ fedAll (fed self (now (room .entry))) (now (bytes .entry)) ⌝ }
     {
@@ -48,7 +48,7 @@ impl Intake {
         next
     }
 
-    // The end of the input: the last line end may be missing.
+    // What is known of the text after the end of the input: the last line end may be missing.
     pub fn ended(self, room: &mut [i32]) -> Intake
         ensures { λ r. ⌜ fed r (now (room .exit)) ≡ endedOf (fed self (now (room .entry))) ⌝ }
     {

@@ -10,7 +10,7 @@ use cells::limits::Program;
 use cells::table;
 use text::number::Signed;
 
-// The first line says the start mode.
+// What is known of the text after its first line, which says the start mode.
 fn begun(i: Intake, z: i32) -> Intake
     ensures { λ r. ⌜ r ≡ withStart i z ⌝ }
 {
@@ -20,7 +20,7 @@ fn begun(i: Intake, z: i32) -> Intake
     next
 }
 
-// A number of the latest table, put at the next free place. A room without such a place is too short: the text is refused.
+// A number of the latest table is put at the next free place of the room. Where there is none, the text is refused.
 fn stored(i: Intake, z: i32, room: &mut [i32]) -> Intake
     requires { ⌜ 0 < i .left ⌝ }
     ensures { λ r. ⌜ fed r (now (room .exit)) ≡ storedOf (fed i (now (room .entry))) z ⌝ }
@@ -54,7 +54,7 @@ fn opened(i: Intake, numbers: usize) -> Intake
     next
 }
 
-// The row count of the next table. Nothing may follow the last one.
+// What is known of the text after the row count of the next table. Nothing may follow the last table.
 fn counted(i: Intake, z: i32) -> Intake
     ensures { λ r. ⌜ r ≡ countedOf i z ⌝ }
 {
@@ -70,7 +70,7 @@ fn counted(i: Intake, z: i32) -> Intake
 }
 
 impl Intake {
-    // A whole line. What is decided stays.
+    // What is known of the text after a whole line. What is decided stays.
     pub fn took(self, number: Signed, room: &mut [i32]) -> Intake
         ensures { λ r. ⌜ fed r (now (room .exit)) ≡ tookOf (fed self (now (room .entry))) number ⌝ }
     {

@@ -15,7 +15,7 @@ use cells::columns::update;
 use cells::limits::Program;
 use cells::tables;
 
-// The numbers of all ten, each with its most rows: a room of so many never is too short.
+// How many numbers all ten tables have, each with its most rows: a room of so many never is too short.
 pub const ROOM: usize = Program::PORTS * port::WIDTH
     + Program::TASKS * task::WIDTH
     + Program::TASK_PORTS * task_port::WIDTH
@@ -27,7 +27,7 @@ pub const ROOM: usize = Program::PORTS * port::WIDTH
     + Program::UPDATES * update::WIDTH
     + Program::SWITCHES * switch::WIDTH;
 
-// The width of a table; past the last table 0.
+// How many numbers a row of a table has; past the last table 0.
 pub fn width(table: usize) -> usize
     ensures { λ r. ⌜ r ≡ shapeAt table .width ⌝ }
 {

@@ -5,28 +5,31 @@ ghost use Rattle.intake.specs.Line.{isDecided, isComplete};
 use cells::limits::Program;
 use text::number::Part;
 
-// The text so far.
+// What is known of a text after some of its bytes.
 pub struct Intake {
-    // Of the line that is being read.
+    // What was read of the line that is being read.
     pub part: Part,
-    // The text is bad, or a count was out of its limit: either decides.
+    // The text is bad: that decides.
     pub bad: bool,
+    // A row count was out of its limit: that decides.
     pub too_many: bool,
-    // The start mode was read.
+    // The start mode was read, and is `start`.
     pub started: bool,
     pub start: i32,
-    // Of so many tables the count was read, and so many numbers of the latest are still to come.
+    // Of so many tables the row count was read.
     pub table: usize,
+    // So many numbers of the latest table are still to come.
     pub left: usize,
     // The next free place of the room.
     pub at: usize,
-    // Where each table begins in the room, and how many numbers it has.
+    // Where each table begins in the room.
     pub begins: [usize; Program::TABLES],
+    // How many numbers each table has.
     pub lens: [usize; Program::TABLES],
 }
 
 impl Intake {
-    // Nothing was read yet.
+    // What is known of a text of which nothing was read yet.
     pub fn new() -> Intake
         ensures { λ r. ⌜ r ≡ startIntake ⌝ }
     {
@@ -51,7 +54,7 @@ impl Intake {
         self.bad | self.too_many
     }
 
-    // The last row was read, and nothing after it.
+    // The last row of the last table was read, and nothing after it.
     pub fn complete(self) -> bool
         ensures { λ r. ⌜ r ≡ isComplete self ⌝ }
     {
@@ -62,7 +65,7 @@ impl Intake {
             & (self.left == 0)
     }
 
-    // The text is bad.
+    // What is known of the text where it is bad.
     pub fn as_bad(self) -> Intake
         ensures { λ r. ⌜ r ≡ asBad self ⌝ }
     {
@@ -71,7 +74,7 @@ impl Intake {
         next
     }
 
-    // A count is out of its limit.
+    // What is known of the text where a row count is out of its limit.
     pub fn as_too_many(self) -> Intake
         ensures { λ r. ⌜ r ≡ asTooMany self ⌝ }
     {

@@ -7,7 +7,7 @@ use crate::state::Intake;
 use cells::limits::Program;
 use cells::parts::part;
 
-// All ten, each from where it begins.
+// The ten tables of the text, each the part of the room from where it begins.
 pub fn tables(i: Intake, room: &[i32]) -> [&[i32]; Program::TABLES]
     ensures { λ r. ⌜ tablesIn r (i .start) ≡ tablesRead (fed i (now (room .entry))) ⌝ }
 {

@@ -29,12 +29,12 @@ mark-here : (d : Option ℕ) (a : ℕ) (table : List ℕ) → a < length table �
 mark-here none a table l z = z
 mark-here (some d) a table l z = getD-set-same table a d 0 l
 
--- it changes no other place
+-- a mark changes no other place than its own
 mark-other : (d : Option ℕ) (a : ℕ) (table : List ℕ) (i : ℕ) → (i ≡ a → ⊥) → getD (mark d a table) i 0 ≡ getD table i 0
 mark-other none a table i h = refl
 mark-other (some d) a table i h = getD-set-other table a i d 0 h
 
--- nor the length
+-- a mark keeps the length of the table
 mark-length : (d : Option ℕ) (a : ℕ) (table : List ℕ) → length (mark d a table) ≡ length table
 mark-length none a table = refl
 mark-length (some d) a table = length-set table a d
@@ -45,7 +45,7 @@ marked-before [] a table i h = refl
 marked-before (o ∷ os) a table i h =
     marked-before os (suc a) (mark (futureDelay o) a table) i (omega arith) ∙ mark-other (futureDelay o) a table i (λ e. omega arith)
 
--- and from there on the delay of each `future`, where the table was 0
+-- the marks of instructions from address a on are the delays of their `future`s, where the table was 0
 marked-at : (os : List Op) (a : ℕ) (table : List ℕ) → a + length os ≤ length table → ((i : ℕ) → a ≤ i → getD table i 0 ≡ 0)
     → (i : ℕ) → getD (marked os a table) (a + i) 0 ≡ delayNumber (delayAt os i)
 marked-at [] a table l z i = z (a + i) (omega arith)
@@ -72,14 +72,14 @@ unfolding listingOf
 delay-of T a d e = future-of (programOf T) a d e
 
 module _ (T : Tables) (v : programVerdict T ≡ acceptedNumber) where
-  -- every delay is at least 1 and at most the limit
+  -- every delay of an accepted program is at least 1 and at most the limit
   pub delay-in-range : (a d : ℕ) → delayAt (listingOf T) a ≡ some d → (1 ≤ d) × (d ≤ maxDelay)
   delay-in-range a d e =
       let w = delay-of T a d e in
       let r = accepted-ticks T v (w .own) (omega (arith, w .declared, mode-count T)) in
       (omega (arith, w .delay, r .0), omega (arith, w .delay, r .1))
 
-  -- so where the table says 0, no `future` stands
+  -- where the table of delays of an accepted program says 0, no `future` stands
   pub zero-none : length (listingOf T) ≤ maxCode → (a : ℕ)
       → (wordAt (marked (listingOf T) 0 (replicate maxCode 0)) a ≡ 0) ↔ (delayAt (listingOf T) a ≡ none)
   zero-none l a = (λ z. go (delayAt (listingOf T) a) refl (sym (table-exact (listingOf T) l a) ∙ z), λ e. table-exact (listingOf T) l a ∙ ap delayNumber e)

@@ -28,7 +28,7 @@ use Rattle.layout.specs.Layout.{unitCounts, sizeIn, startIn, laidMore, l
 use Rattle.layout.proofs.Limits.{counts-sized, mode-most}
 use Rattle.layout.proofs.Sizes.{counts-due}
 
--- where its unit 0 is entered
+-- where unit 0 of mode m is entered
 abbrev pub entryIn : Tables → ℕ → ℕ → ℕ
 entryIn T sensors m = startIn T sensors m + beforeEntry (unitCounts T sensors m 0)
 
@@ -50,14 +50,14 @@ ends {starts} {entries} e = λ j. record { starts = starts; entries = entries; l
 zeros-small : {b : ℕ} (i : ℕ) → getD {A = ℕ} (replicate maxModes 0) i 0 ≤ b
 zeros-small i = omega (arith, zeros-at maxModes i)
 
-module _ (T : Tables) {invocations updates switches : List ℤ} {own u m : ℕ} (sensors : ℕ) (e : T .invocations ≡ invocations)
-    (f : T .updates ≡ updates) (g : T .switches ≡ switches) (h : own ≡ m) (q : u ≡ units T m) where
+module _ (T : Tables) {invocations updates switches : List ℤ} {u : ℕ} (m sensors : ℕ) (e : T .invocations ≡ invocations)
+    (f : T .updates ≡ updates) (g : T .switches ≡ switches) (q : u ≡ units T m) where
   -- what was counted of the lent tables was counted of the program that has them
-  pub counts-lent : (k : ℕ) → countsIn invocations updates switches sensors own u k ≡ unitCounts T sensors m k
-  counts-lent k = λ j. countsIn (sym e j) (sym f j) (sym g j) sensors (h j) (q j) k
+  pub counts-lent : (k : ℕ) → countsIn invocations updates switches sensors m u k ≡ unitCounts T sensors m k
+  counts-lent k = λ j. countsIn (sym e j) (sym f j) (sym g j) sensors m (q j) k
 
-  -- so was the size of a mode
-  pub size-lent : sum (λ k. sizeOf (countsIn invocations updates switches sensors own u k)) u ≡ sizeIn T sensors m
+  -- the size of a mode that was counted of the lent tables is that of the program that has them
+  pub size-lent : sum (λ k. sizeOf (countsIn invocations updates switches sensors m u k)) u ≡ sizeIn T sensors m
   size-lent = λ j. sum (λ k. sizeOf (counts-lent k j)) (q j)
 
 -- the layout that the code makes of these two numbers is that with one mode more
@@ -70,12 +70,12 @@ more-told T sensors m before p q =
     λ j. record { starts = set (before .starts) m (before .length); entries = set (before .entries) m (before .length + p j); length = before .length + q j }
 
 module _ (T : Tables) (sensors : ℕ) where
-  -- one mode more
+  -- the layout of the first m modes and mode m is that of the first m + 1
   pub laid-more : (m : ℕ) → laidMore T sensors m (laid T sensors m) ≡ laid T sensors (m + 1)
   unfolding laidMore
   laid-more m = rw (add-one m) (ends (add-assoc 1 (sum (sizeIn T sensors) m) (sizeIn T sensors m)))
 
-  -- so the layout is made of its modes, one after the other
+  -- the layout of the first n modes is made of them, one after the other
   pub laid-modes : (n : ℕ) → laid T sensors n ≡ laidModes T sensors n
   laid-modes zero = refl
   laid-modes (suc m) = ap (laid T sensors) (sym (add-one m)) ∙ sym (laid-more m) ∙ ap (laidMore T sensors m) (laid-modes m)
@@ -89,11 +89,11 @@ module _ (T : Tables) (sensors : ℕ) where
           sum-most (sizeIn T sensors) mostMode m (λ i l. mode-most _ _ _ _ i (units T i) few s (units T i) (units-within T i)),
         )
 
-    -- so a mode that begins there ends within the longest code
+    -- a mode that begins where the modes before it end is within the longest code
     pub start-near : (m : ℕ) {at : ℕ} → m < maxModes → at ≡ startIn T sensors m → at + mostMode ≤ mostCode
     start-near m h q = omega (arith, start-most m)
 
-    -- no number exceeds it
+    -- no number of the layout of the first n modes exceeds the longest code
     pub laid-small : (n : ℕ) → n ≤ maxModes → Small (laid T sensors n)
     laid-small n l = record {
       starts = filled-most (startIn T sensors) (replicate maxModes 0) mostCode n (λ i h. omega (arith, start-most i)) zeros-small;
@@ -113,7 +113,7 @@ module _ (T : Tables) (sensors : ℕ) where
     counts-mode m k h =
         ap (λ (s : ℕ). unitCounts T s m k) e ∙ counts-due T m k ∙ ap (λ (M : Mode). countsOf P M k) (sym (mode-row T m h))
 
-    -- so the mode is as long as it was counted
+    -- a declared mode is as long as it was counted
     pub size-mode : (m : ℕ) → m < modeCount T → sizeIn T sensors m ≡ modeSize P (mode P m)
     size-mode m h =
         sum-same _ _ (units T m) (λ k b. ap sizeOf (counts-mode m k h))

@@ -11,7 +11,7 @@ use lib.ListN.{length}
 use Rattle.theory.specs.Lists.{sum}
 use Rattle.theory.proofs.Lists.{sum-most, those-few}
 use Rattle.cells.specs.Limits.{maxPorts, maxModes, maxUnits}
-use Rattle.program.specs.Tables.{Tables, tables, modeCount}
+use Rattle.program.specs.Tables.{Tables, tables, portCount, modeCount}
 use Rattle.program.specs.Sets.{sensorRows}
 use Rattle.program.specs.Units.{units}
 use Rattle.program.proofs.Units.{units-some, units-within}
@@ -29,12 +29,12 @@ told-most e l = omega arith
 pub block-most : (c : Counts) → Sized c → sizeOf c ≤ mostBlock
 block-most c s = omega arith
 
--- nor is its entry further from its beginning
+-- the entry of a block of few instructions of each kind is no further from its beginning than the longest block
 pub entry-most : (c : Counts) → Sized c → beforeEntry c ≤ mostBlock
 entry-most c s = omega arith
 
 module _ (invocations updates switches : List ℤ) (sensors m u : ℕ) (few : Few invocations updates switches) (s : sensors ≤ maxPorts) where
-  -- of few rows few are due
+  -- of tables with few rows few rows are due
   pub counts-sized : (k : ℕ) → Sized (countsIn invocations updates switches sensors m u k)
   counts-sized k = record {
     invocations = le-trans (those-few _ (λ i. i) _ 0) (few .invocations);
@@ -43,11 +43,11 @@ module _ (invocations updates switches : List ℤ) (sensors m u : ℕ) (few : Fe
     sensors = s;
   }
 
-  -- so the block of a unit is no longer than the most
+  -- the block of a unit is no longer than the longest block
   pub unit-most : (k : ℕ) → sizeOf (countsIn invocations updates switches sensors m u k) ≤ mostBlock
   unit-most k = block-most _ (counts-sized k)
 
-  -- and a mode is no longer than the most
+  -- a mode of n units is no longer than the longest mode
   pub mode-most : (n : ℕ) → n ≤ suc maxUnits → sum (λ k. sizeOf (countsIn invocations updates switches sensors m u k)) n ≤ mostMode
   mode-most n l = omega (arith, sum-most _ mostBlock n (λ k l. unit-most k))
 
@@ -59,7 +59,7 @@ units-told m {r} {invocations} {updates} {switches} told =
     let e = told T refl refl refl in (omega (arith, units-some T m), omega (arith, units-within T m))
 
 module _ (T : Tables) (e : shapeBad T ≡ false) where
-  -- tables that number 1 passes have few rows
+  -- tables that number 1 passes have few invocations, updates and switches
   pub few-rows : Few (T .invocations) (T .updates) (T .switches)
   few-rows =
       let w = shape-bars T .ok e in
@@ -69,10 +69,14 @@ module _ (T : Tables) (e : shapeBad T ≡ false) where
         switches = whole-few _ _ (T .switches) (w .switches);
       }
 
-  -- few modes
+  -- tables that number 1 passes declare no more ports than the limit
+  pub few-ports : portCount T ≤ maxPorts
+  few-ports = ports-few T (shape-bars T .ok e)
+
+  -- tables that number 1 passes declare no more modes than the limit
   pub few-modes : modeCount T ≤ maxModes
   few-modes = whole-few _ _ (T .modes) (shape-bars T .ok e .modes)
 
-  -- and few sensors
+  -- tables that number 1 passes declare no more sensors than the limit
   pub few-sensors : length (sensorRows (T .ports) (λ p. p)) ≤ maxPorts
-  few-sensors = le-trans (those-few _ (λ p. p) _ 0) (ports-few T (shape-bars T .ok e))
+  few-sensors = le-trans (those-few _ (λ p. p) _ 0) few-ports

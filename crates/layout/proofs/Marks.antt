@@ -40,20 +40,20 @@ held-most n = go (leb n maxPeriod) refl
     go true e = leb-true n maxPeriod e
     go false e = omega arith
 
--- one within the limit is held as it is
+-- a period within the limit is held as it is
 held-small : (n : ℕ) → n ≤ maxPeriod → heldPeriod n ≡ n
 unfolding heldPeriod
 held-small n l = simp (le-leb n maxPeriod l)
 
--- the marks of a mode by its name, its units and its period
-pub marks-named : (T : Tables) {own u m period : ℕ} (sensors at : ℕ) (table : List ℕ)
-    → own ≡ m → u ≡ units T m → period ≡ heldPeriod (modePeriod T m)
-    → unitsMarked (countsIn (T .invocations) (T .updates) (T .switches) sensors own u) (period / u) at u table
+-- the marks of mode m by the number of its units and its held period
+pub marks-told : (T : Tables) {u period : ℕ} (m sensors at : ℕ) (table : List ℕ)
+    → u ≡ units T m → period ≡ heldPeriod (modePeriod T m)
+    → unitsMarked (countsIn (T .invocations) (T .updates) (T .switches) sensors m u) (period / u) at u table
     ≡ unitsMarked (unitCounts T sensors m) (ticksIn T m) at (units T m) table
-marks-named T sensors at table h q p =
-    λ j. unitsMarked (countsIn (T .invocations) (T .updates) (T .switches) sensors (h j) (q j)) (p j / q j) at (q j) table
+marks-told T m sensors at table q p =
+    λ j. unitsMarked (countsIn (T .invocations) (T .updates) (T .switches) sensors m (q j)) (p j / q j) at (q j) table
 
--- the marks of one piece, and then of the next
+-- the marks of two pieces are those of the first and then of the second, behind it
 marked-append : (xs ys : List Op) (a : ℕ) (table : List ℕ) → marked (xs ++ ys) a table ≡ marked ys (a + length xs) (marked xs a table)
 marked-append [] ys a table = ap (λ (n : ℕ). marked ys n table) (sym (add-zero a))
 marked-append (x ∷ xs) ys a table =
@@ -61,13 +61,13 @@ marked-append (x ∷ xs) ys a table =
     marked-append xs ys (suc a) (mark (futureDelay x) a table)
     ∙ ap (λ (n : ℕ). marked ys n (marked xs (suc a) (mark (futureDelay x) a table))) e
 
--- where there is no `future` there is no mark
+-- instructions without a `future` mark nothing
 marked-plain : (os : List Op) (a : ℕ) (table : List ℕ) → Every Plain os → marked os a table ≡ table
 marked-plain [] a table h = refl
 marked-plain (o ∷ os) a table h =
     ap (λ (d : Option ℕ). marked os (suc a) (mark d a table)) (h .0) ∙ marked-plain os (suc a) table (h .1)
 
--- so such a piece is passed over
+-- a piece without a `future` is passed over
 marked-skip : (xs ys : List Op) (a : ℕ) (table : List ℕ) → Every Plain xs → marked (xs ++ ys) a table ≡ marked ys (a + length xs) table
 marked-skip xs ys a table h = marked-append xs ys a table ∙ ap (marked ys (a + length xs)) (marked-plain xs a table h)
 
@@ -105,7 +105,7 @@ cat-marked f size (suc n) a table e =
     let r = cat-marked f size n a table (λ k l. e k (omega arith)) in
     marked-append (cat f n) (f n) a table ∙ (λ j. marked (f n) (a + s j) (r j))
 
--- so those of a mode are the ticks at the `future` of each unit
+-- the marks of a mode are the ticks at the `future` of each unit
 mode-marked : (P : Program) (m a : ℕ) (table : List ℕ)
     → marked (modeCode P m) a table ≡ unitsMarked (countsOf P (mode P m)) (ticksOf (mode P m)) a (mode P m .units) table
 mode-marked P m a table =

@@ -1,5 +1,5 @@
 -- What is counted in the tables is what is due in their program, so the sizes are those of its listing.
--- Assumes nothing; of a mode by number, that it is declared.
+-- Assumes of a mode by number that it is declared.
 use Prim.Native.Nat.{ℕ, _+_}
 use mathlib.Core.Path.{_≡_, refl, sym, ap, _∙_}
 use native.Mathlib.Omega.{arith}
@@ -15,20 +15,20 @@ use Rattle.layout.specs.declared.counts.Counts.{Counts}
 use Rattle.layout.specs.Counts.{countsIn, countsOf, beforeTests, beforeEntry, beforeFuture, sizeOf}
 
 module _ (P : Program) (M : Mode) (k : ℕ) where
-  -- to the switch tests it is the size of what stands before them
+  -- from the beginning of a block to its switch tests it is the size of what stands before them
   pub head-counted : beforeTests (countsOf P M k) ≡ headSize P M k
   head-counted = refl
 
-  -- to the end it is the size of the block
+  -- from the beginning of a block to its end it is the size of the block
   pub block-counted : sizeOf (countsOf P M k) ≡ blockSize P M k
   block-counted = refl
 
 module _ (P : Program) (m k : ℕ) where
-  -- the entry of a block
+  -- the entry of a block stands as far from its beginning as was counted
   pub entry-counted : entryAddress P m k ≡ blockAddress P m k + beforeEntry (countsOf P (mode P m) k)
   entry-counted = refl
 
-  -- its `future`
+  -- the `future` of a block stands as far from its beginning as was counted
   pub future-counted : futureAddress P m k ≡ blockAddress P m k + beforeFuture (countsOf P (mode P m) k)
   future-counted = omega arith
 

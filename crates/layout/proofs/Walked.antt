@@ -1,6 +1,5 @@
 -- A walk over pieces that stand one after the other, each of which does something to a table at its address: what a loop over them
 -- has done after some of them, and when two walks come to the same.
--- Assumes nothing.
 use Prim.Native.Nat.{ℕ, zero, suc, _+_, _≤_, _<_}
 use mathlib.Core.Path.{_≡_, refl, sym, ap, _∙_}
 use mathlib.Core.List.{List}
@@ -19,11 +18,11 @@ module _ (size : ℕ → ℕ) (step : ℕ → ℕ → List ℕ → List ℕ) (a 
     pub ends : next ≡ a + sum size k
     pub done : now ≡ walked size step a k table
 
-  -- the loop begins
+  -- before the first piece the loop has done nothing
   pub walked-none : (n : ℕ) (table : List ℕ) → Walking n table 0 a table
   walked-none n table = record { in-range = omega arith; ends = sym (add-zero a); done = refl }
 
-  -- one piece more: where it ends, and the table afterwards
+  -- the loop takes one piece more: where it ends, and the table afterwards
   pub walked-more : (n : ℕ) (table : List ℕ) (k next end : ℕ) (now after : List ℕ)
       → k < n → end ≡ next + size k → after ≡ step k next now → Walking n table k next now → Walking n table (k + 1) end after
   walked-more n table k next end now after l p q w =
@@ -33,21 +32,21 @@ module _ (size : ℕ → ℕ) (step : ℕ → ℕ → List ℕ → List ℕ) (a 
         done = q ∙ (λ j. step k (w .ends j) (w .done j)) ∙ ap (λ (i : ℕ). walked size step a i table) (sym (add-one k));
       }
 
-  -- the loop ends
+  -- behind the last piece the loop has done the whole walk
   pub walked-all : (n : ℕ) (table : List ℕ) (k next : ℕ) (now : List ℕ) → n ≤ k → Walking n table k next now
       → (now ≡ walked size step a n table) × (next ≡ a + sum size n)
   walked-all n table k next now l w =
       let e : k ≡ n = omega (arith, w .in-range) in
       (w .done ∙ ap (λ (i : ℕ). walked size step a i table) e, w .ends ∙ ap (λ (i : ℕ). a + sum size i) e)
 
-  -- where each step keeps the table's length, the walk does
+  -- a walk whose steps keep the table's length keeps it
   pub walked-keeps : ((k at : ℕ) (t : List ℕ) → length (step k at t) ≡ length t) → (n : ℕ) (table : List ℕ)
       → length (walked size step a n table) ≡ length table
   walked-keeps h zero table = refl
   walked-keeps h (suc n) table = h n (a + sum size n) (walked size step a n table) ∙ walked-keeps h n table
 
   module _ {n : ℕ} {table : List ℕ} {k next : ℕ} {now : List ℕ} (w : Walking n table k next now) where
-    -- so does what the loop has done of it
+    -- what a loop has done of a walk whose steps keep the table's length keeps it
     pub walked-length : ((k at : ℕ) (t : List ℕ) → length (step k at t) ≡ length t) → length now ≡ length table
     walked-length h = ap length (w .done) ∙ walked-keeps h k table
 

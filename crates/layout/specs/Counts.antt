@@ -1,6 +1,5 @@
 -- The instructions of a block by their kind, counted: from the tables, and of a program. How far it is from the beginning of a
 -- block to each of its parts, and the most that this, a mode and the listing come to within document 01's limits.
--- Assumes nothing.
 use Prim.Native.Nat.{ℕ, suc, _+_, _*_}
 use mathlib.Core.List.{List}
 use lib.IntN.{ℤ}
@@ -11,7 +10,7 @@ use Rattle.program.specs.Units.{dueRows}
 use Rattle.program.specs.Program.{Program, Mode, dueInvocations, dueUpdates, dueSwitches}
 use Rattle.layout.specs.declared.counts.Counts.{Counts}
 
--- the rows of these tables that are due at unit k of mode m, which has u units
+-- how many rows of these tables are due at unit k of mode m, which has u units
 abbrev pub countsIn : List ℤ → List ℤ → List ℤ → ℕ → ℕ → ℕ → ℕ → Counts
 countsIn invocations updates switches sensors m u k =
     record {
@@ -21,7 +20,7 @@ countsIn invocations updates switches sensors m u k =
       sensors = sensors;
     }
 
--- what is due at unit k of a mode of a program
+-- how many rows are due at unit k of a mode of a program
 abbrev pub countsOf : Program → Mode → ℕ → Counts
 countsOf P M k =
     record {
@@ -35,30 +34,30 @@ countsOf P M k =
 abbrev pub beforeTests : Counts → ℕ
 beforeTests c = c .invocations + (c .updates + c .sensors)
 
--- to its entry
+-- from the beginning of a block to its entry
 abbrev pub beforeEntry : Counts → ℕ
 beforeEntry c = beforeTests c + c .switches
 
--- to its `future`
+-- from the beginning of a block to its `future`
 abbrev pub beforeFuture : Counts → ℕ
 beforeFuture c = beforeEntry c + 2 * c .invocations
 
--- to its end
+-- from the beginning of a block to its end
 abbrev pub sizeOf : Counts → ℕ
 sizeOf c = beforeTests c + (c .switches + (2 * c .invocations + (2 + 2 * c .switches)))
 
--- every row that the tables may have is due
+-- the counts where every row that the tables may have is due
 abbrev pub mostCounts : Counts
 mostCounts = record { invocations = maxInvocations; updates = maxUpdates; switches = maxSwitches; sensors = maxPorts }
 
--- no block has more instructions
+-- the most instructions that a block can have
 abbrev pub mostBlock : ℕ
 mostBlock = sizeOf mostCounts
 
--- nor has a mode: the units are one more than the limit where their least common multiple exceeds it
+-- the most instructions that a mode can have: its units are one more than the limit where their least common multiple exceeds it
 abbrev pub mostMode : ℕ
 mostMode = suc maxUnits * mostBlock
 
--- nor has a listing
+-- the most instructions that a listing can have
 abbrev pub mostCode : ℕ
 mostCode = 1 + maxModes * mostMode

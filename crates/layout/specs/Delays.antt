@@ -1,5 +1,4 @@
 -- The delays of a code's `future`s as a table: at each address the delay of the `future` that stands there, 0 where none does.
--- Assumes nothing.
 use Prim.Native.Nat.{ℕ, zero, suc, _+_, _/_}
 use mathlib.Core.Bool.{cond}
 use mathlib.Core.List.{List, [], _∷_}
@@ -48,6 +47,6 @@ heldPeriod n = cond (leb n maxPeriod) n maxPeriod
 abbrev pub ticksIn : Tables → ℕ → ℕ
 ticksIn T m = heldPeriod (modePeriod T m) / units T m
 
--- the same for each of the first n modes, behind the jump at address 0
+-- the ticks at the `future` of each unit of each of the first n modes, behind the jump at address 0
 abbrev pub modesMarked : Tables → ℕ → ℕ → List ℕ → List ℕ
 modesMarked T sensors = walked (sizeIn T sensors) (λ m at table. unitsMarked (unitCounts T sensors m) (ticksIn T m) at (units T m) table) 1

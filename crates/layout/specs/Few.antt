@@ -1,5 +1,4 @@
 -- Tables and counts within document 01's limits, so that no sum of a listing's sizes wraps.
--- Assumes nothing.
 use Prim.Native.Nat.{ℕ, _≤_, _<_}
 use mathlib.Core.List.{List}
 use lib.IntN.{ℤ}
@@ -14,7 +13,7 @@ pub record Few (lent-invocations lent-updates lent-switches : List ℤ) : Type 0
   pub updates : rowsIn updateWidth lent-updates ≤ maxUpdates
   pub switches : rowsIn switchWidth lent-switches ≤ maxSwitches
 
--- a unit has no more due rows, and a program no more sensors
+-- a unit has no more due rows, and a program no more sensors, than document 01 allows
 pub record Sized (c : Counts) : Type 0 where
   pub invocations : c .invocations ≤ maxInvocations
   pub updates : c .updates ≤ maxUpdates

@@ -1,5 +1,4 @@
 -- Where the modes of a listing stand: one mode more, counted from the tables; and what a layout of all says of the listing.
--- Assumes nothing.
 use Prim.Native.Nat.{ℕ, zero, suc, _+_, _≤_, _<_}
 use mathlib.Core.Path.{_≡_}
 use lib.ListN.{length, getD, set, replicate}
@@ -14,11 +13,11 @@ use Rattle.layout.specs.declared.counts.Counts.{Counts}
 use Rattle.layout.specs.declared.addresses.Layout.{Layout}
 use Rattle.layout.specs.Counts.{countsIn, beforeEntry, sizeOf, mostCode}
 
--- what is due at unit k of mode m of these tables
+-- how many rows of these tables are due at unit k of mode m
 abbrev pub unitCounts : Tables → ℕ → ℕ → ℕ → Counts
 unitCounts T sensors m k = countsIn (T .invocations) (T .updates) (T .switches) sensors m (units T m) k
 
--- how long the mode is
+-- how many instructions mode m has
 abbrev pub sizeIn : Tables → ℕ → ℕ → ℕ
 sizeIn T sensors m = sum (λ k. sizeOf (unitCounts T sensors m k)) (units T m)
 
@@ -26,7 +25,7 @@ sizeIn T sensors m = sum (λ k. sizeOf (unitCounts T sensors m k)) (units T m)
 abbrev pub startIn : Tables → ℕ → ℕ → ℕ
 startIn T sensors m = 1 + sum (sizeIn T sensors) m
 
--- mode m begins where the modes before it end
+-- the layout with mode m, which begins where the modes before it end
 unfoldable pub laidMore : Tables → ℕ → ℕ → Layout → Layout
 laidMore T sensors m before =
     record {
@@ -46,7 +45,7 @@ pub record LaidOut (T : Tables) (l : Layout) : Type 0 where
   pub entries : (m : ℕ) → m < modeCount T → getD (l .entries) m 0 ≡ entryAddress (programOf T) m 0
   pub length : l .length ≡ length (listingOf T)
 
--- none of its numbers exceeds the longest code, so that each fits a word
+-- no number of a layout exceeds the longest code, so that each fits a word
 pub record Small (l : Layout) : Type 0 where
   pub starts : (m : ℕ) → getD (l .starts) m 0 ≤ mostCode
   pub entries : (m : ℕ) → getD (l .entries) m 0 ≤ mostCode

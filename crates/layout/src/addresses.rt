@@ -1,9 +1,9 @@
 // Where each mode of the listing begins and is entered, and how long the listing is: one walk over the modes.
 ghost use mathlib.Core.Path.{_≡_};
-ghost use Prim.Native.Nat.{_≤_, _<_};
+ghost use Prim.Native.Nat.{_≤_};
 ghost use lib.IntN.{ℤ};
 ghost use lib.ListN.{length};
-ghost use Rattle.cells.specs.Limits.{maxPorts, maxModes};
+ghost use Rattle.cells.specs.Limits.{maxPorts};
 ghost use Rattle.program.specs.Tables.{Tables, tablesIn, modeCount};
 ghost use Rattle.program.specs.Program.{programOf};
 ghost use Rattle.rules.specs.Shape.{InShape};
@@ -11,9 +11,9 @@ ghost use Rattle.layout.specs.Counts.{mostCode};
 ghost use Rattle.layout.specs.Few.{Few};
 ghost use Rattle.layout.specs.Layout.{laidMore, laidModes, LaidOut, Small};
 use crate::counts;
-use cells::columns::mode;
 use cells::kinds::Mode;
 use cells::limits::Program;
+use cells::modes;
 use cells::tables;
 use program::multiples;
 
@@ -24,33 +24,35 @@ pub struct Layout {
     pub length: usize,
 }
 
-// Where mode m begins, is entered and ends: it begins where the modes before it end.
+// The layout with mode m, which begins where the modes before it end.
 fn one_more(
     before: Layout,
     invocations: &[i32],
     updates: &[i32],
     switches: &[i32],
     sensors: usize,
-    m: usize,
+    m: Mode,
 ) -> Layout
     requires { ⌜ Few (now invocations) (now updates) (now switches) ⌝ }
     requires { ⌜ sensors ≤ maxPorts ⌝ }
-    requires { ⌜ m < maxModes ⌝ }
     requires { ⌜ before .length ≤ mostCode ⌝ }
     ensures { λ r. ⌜ ((T : Tables) → T .invocations ≡ now (invocations .entry) → T .updates ≡ now (updates .entry)
-        → T .switches ≡ now (switches .entry) → r ≡ laidMore T sensors m before) ⌝ }
+        → T .switches ≡ now (switches .entry) → r ≡ laidMore T sensors (m .0) before) ⌝ }
 {
-    let own = Mode::of(m);
-    let u = multiples::units(invocations, updates, switches, own);
-    let first = counts::count(invocations, updates, switches, sensors, own, u, 0);
+    let u = multiples::units(invocations, updates, switches, m);
+    let first = counts::count(invocations, updates, switches, sensors, m, u, 0);
     let begin = before.length;
     let entry = begin + counts::before_entry(first);
-    let end = begin + counts::mode_size(invocations, updates, switches, sensors, own, u);
-    let mut next = before;
-    next.starts[m] = begin;
-    next.entries[m] = entry;
-    next.length = end;
-    next
+    let end = begin + counts::mode_size(invocations, updates, switches, sensors, m, u);
+    let mut starts = before.starts;
+    modes::put_address(&mut starts, m, begin);
+    let mut entries = before.entries;
+    modes::put_address(&mut entries, m, entry);
+    Layout {
+        starts: starts,
+        entries: entries,
+        length: end,
+    }
 }
 
 // The layout of all modes, one after the other, behind the jump at address 0.
@@ -65,18 +67,18 @@ pub fn lay_out(tables: &[&[i32]; Program::TABLES], sensors: usize) -> Layout
     let invocations = tables[tables::INVOCATIONS];
     let updates = tables[tables::UPDATES];
     let switches = tables[tables::SWITCHES];
-    let n = tables[tables::MODES].len() / mode::WIDTH;
+    let modes = tables[tables::MODES];
     let none = [0; Program::MODES];
     let mut at = Layout {
         starts: none,
         entries: none,
         length: 1,
     };
-    let mut m = 0;
-    while m < n {
+    let mut m = Mode::of(0);
+    while modes::declared(modes, m) {
         let next = one_more(at, invocations, updates, switches, sensors, m);
         at = next;
-        m += 1;
+        m = m.next();
     }
     at
 }

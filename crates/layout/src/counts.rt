@@ -3,7 +3,9 @@ ghost use mathlib.Core.Path.{_≡_};
 ghost use Prim.Native.Nat.{suc, _≤_};
 ghost use lib.ListN.{length};
 ghost use Rattle.theory.specs.Lists.{sum};
+ghost use Rattle.cells.specs.Cell.{rowsIn};
 ghost use Rattle.cells.specs.Limits.{maxPorts, maxUnits};
+ghost use Rattle.program.specs.Tables.{portWidth};
 ghost use Rattle.program.specs.Sets.{sensorRows};
 ghost use Rattle.layout.specs.Few.{Few, Sized};
 ghost use Rattle.layout.specs.Counts.{countsIn, beforeTests, beforeEntry, beforeFuture, sizeOf};
@@ -12,10 +14,11 @@ use cells::columns::port;
 use cells::columns::switch;
 use cells::columns::update;
 use cells::kinds::Mode;
-use cells::table;
+use cells::kinds::Port;
+use cells::ports;
 use program::due;
 
-// The rows that are due at a unit, and all sensors.
+// How many rows of each table are due at a unit, and how many sensors there are.
 pub struct Counts {
     pub invocations: usize,
     pub updates: usize,
@@ -25,21 +28,21 @@ pub struct Counts {
 
 // How many sensors are declared.
 pub fn sensors(ports: &[i32]) -> usize
+    requires { ⌜ rowsIn portWidth (now ports) ≤ maxPorts ⌝ }
     ensures { λ r. ⌜ r ≡ length (sensorRows (now (ports .entry)) (λ p. p)) ⌝ }
 {
-    let n = ports.len() / port::WIDTH;
     let mut count = 0;
-    let mut p = 0;
-    while p < n {
-        if table::field(ports, port::WIDTH, p, port::KIND) == port::SENSOR {
+    let mut p = Port::of(0);
+    while ports::declared(ports, p) {
+        if ports::kind(ports, p) == port::SENSOR {
             count += 1;
         }
-        p += 1;
+        p = p.next();
     }
     count
 }
 
-// What is due at unit k of mode m, which has u units.
+// How many rows are due at unit k of mode m, which has u units.
 pub fn count(
     invocations: &[i32],
     updates: &[i32],
@@ -62,7 +65,7 @@ pub fn count(
     }
 }
 
-// From the beginning of a block to its switch tests.
+// How many instructions stand from the beginning of a block to its switch tests.
 fn before_tests(c: Counts) -> usize
     requires { ⌜ Sized c ⌝ }
     ensures { λ r. ⌜ r ≡ beforeTests c ⌝ }
@@ -70,7 +73,7 @@ fn before_tests(c: Counts) -> usize
     c.invocations + (c.updates + c.sensors)
 }
 
-// From the beginning of a block to its entry.
+// How many instructions stand from the beginning of a block to its entry.
 pub fn before_entry(c: Counts) -> usize
     requires { ⌜ Sized c ⌝ }
     ensures { λ r. ⌜ r ≡ beforeEntry c ⌝ }
@@ -78,7 +81,7 @@ pub fn before_entry(c: Counts) -> usize
     before_tests(c) + c.switches
 }
 
-// From the beginning of a block to its `future`.
+// How many instructions stand from the beginning of a block to its `future`.
 pub fn before_future(c: Counts) -> usize
     requires { ⌜ Sized c ⌝ }
     ensures { λ r. ⌜ r ≡ beforeFuture c ⌝ }
@@ -86,7 +89,7 @@ pub fn before_future(c: Counts) -> usize
     before_entry(c) + 2 * c.invocations
 }
 
-// From the beginning of a block to its end.
+// How many instructions a block has.
 pub fn block_size(c: Counts) -> usize
     requires { ⌜ Sized c ⌝ }
     ensures { λ r. ⌜ r ≡ sizeOf c ⌝ }
@@ -94,7 +97,7 @@ pub fn block_size(c: Counts) -> usize
     before_tests(c) + (c.switches + (2 * c.invocations + (2 + 2 * c.switches)))
 }
 
-// How long the block of unit k of mode m is, which has u units.
+// How many instructions the block of unit k of mode m has; the mode has u units.
 fn unit_size(
     invocations: &[i32],
     updates: &[i32],
@@ -111,7 +114,7 @@ fn unit_size(
     block_size(count(invocations, updates, switches, sensors, m, u, k))
 }
 
-// How long the blocks of mode m are together, which has u units.
+// How many instructions the blocks of mode m have together; the mode has u units.
 pub fn mode_size(
     invocations: &[i32],
     updates: &[i32],

@@ -1,12 +1,12 @@
 // The delay of the `future` at each address of the compiled code, as a table that is filled from the program's tables.
 ghost use mathlib.Core.Path.{_≡_};
-ghost use Prim.Native.Nat.{suc, _+_, _≤_, _<_};
+ghost use Prim.Native.Nat.{suc, _+_, _≤_};
 ghost use lib.IntN.{ℤ};
 ghost use lib.ListN.{length, set};
 ghost use Rattle.theory.specs.Lists.{sum};
 ghost use Rattle.theory.specs.Verdict.{acceptedNumber};
 ghost use Rattle.cells.specs.Cell.{wordAt, greatestWord};
-ghost use Rattle.cells.specs.Limits.{maxPorts, maxModes, maxUnits};
+ghost use Rattle.cells.specs.Limits.{maxPorts, maxUnits};
 ghost use Rattle.program.specs.Tables.{tablesIn, modeCount};
 ghost use Rattle.program.specs.Sets.{sensorRows};
 ghost use Rattle.program.specs.Units.{units};
@@ -19,9 +19,9 @@ ghost use Rattle.layout.specs.Layout.{unitCounts, sizeIn};
 ghost use Rattle.layout.specs.Delays.{marked, unitsMarked, heldPeriod, ticksIn, modesMarked};
 use crate::counts;
 use crate::counts::Counts;
-use cells::columns::mode;
 use cells::kinds::Mode;
 use cells::limits::Program;
+use cells::modes;
 use cells::table;
 use cells::tables;
 use program::multiples;
@@ -36,7 +36,7 @@ fn held(period: usize) -> usize
     Program::PERIOD
 }
 
-// The ticks put at the `future` of a block that begins at this address. Where the block ends.
+// The ticks are put at the `future` of a block that begins at this address. Where the block ends is returned.
 fn mark_block(c: Counts, ticks: usize, at: usize, delays: &mut [u32]) -> usize
     requires { ⌜ Sized c ⌝ }
     requires { ⌜ ticks ≤ greatestWord ⌝ }
@@ -48,7 +48,7 @@ fn mark_block(c: Counts, ticks: usize, at: usize, delays: &mut [u32]) -> usize
     at + counts::block_size(c)
 }
 
-// The ticks put at the `future` of each of the u units of mode m, which begins at this address. Where the mode ends.
+// The ticks are put at the `future` of each of the u units of mode m, which begins at this address. Where the mode ends is returned.
 fn mark_units(
     invocations: &[i32],
     updates: &[i32],
@@ -80,35 +80,33 @@ fn mark_units(
     next
 }
 
-// The same for mode m of the tables, with its units and its period. Where the mode ends.
+// The ticks of a unit are put at the `future` of each unit of mode m, which begins at this address. Where the mode ends is returned.
 fn mark_mode(
     tables: &[&[i32]; Program::TABLES],
     sensors: usize,
-    m: usize,
+    m: Mode,
     at: usize,
     delays: &mut [u32],
 ) -> usize
     requires { ⌜ InShape (now tables) ⌝ }
     requires { ⌜ sensors ≤ maxPorts ⌝ }
-    requires { ⌜ m < maxModes ⌝ }
     requires { ⌜ at + mostMode ≤ mostCode ⌝ }
     ensures marks { λ _. ⌜ ((start : ℤ) → let T = tablesIn (now (tables .entry)) start in
-        now (delays .exit) ≡ unitsMarked (unitCounts T sensors m) (ticksIn T m) at (units T m) (now (delays .entry))) ⌝ }
-    ensures end { λ r. ⌜ ((start : ℤ) → r ≡ at + sizeIn (tablesIn (now (tables .entry)) start) sensors m) ⌝ }
+        now (delays .exit) ≡ unitsMarked (unitCounts T sensors (m .0)) (ticksIn T (m .0)) at (units T (m .0)) (now (delays .entry))) ⌝ }
+    ensures end { λ r. ⌜ ((start : ℤ) → r ≡ at + sizeIn (tablesIn (now (tables .entry)) start) sensors (m .0)) ⌝ }
 {
     let invocations = tables[tables::INVOCATIONS];
     let updates = tables[tables::UPDATES];
     let switches = tables[tables::SWITCHES];
-    let own = Mode::of(m);
-    let u = multiples::units(invocations, updates, switches, own);
-    let period = held(table::field(tables[tables::MODES], mode::WIDTH, m, mode::PERIOD));
+    let u = multiples::units(invocations, updates, switches, m);
+    let period = held(modes::period(tables[tables::MODES], m));
     let ticks = period / u;
     mark_units(
         invocations,
         updates,
         switches,
         sensors,
-        own,
+        m,
         u,
         ticks,
         at,
@@ -116,7 +114,7 @@ fn mark_mode(
     )
 }
 
-// The delay of each `future` put at its address, counted from the tables; the other places stay as they are. Of an accepted program
+// The delay of each `future` is put at its address, counted from the tables; the other places stay as they are. Of an accepted program
 // these are the delays of the compiled code.
 pub fn fill(tables: &[&[i32]; Program::TABLES], delays: &mut [u32])
     requires { ⌜ InShape (now tables) ⌝ }
@@ -126,12 +124,12 @@ pub fn fill(tables: &[&[i32]; Program::TABLES], delays: &mut [u32])
         programVerdict T ≡ acceptedNumber → now (delays .exit) ≡ marked (listingOf T) 0 (now (delays .entry))) ⌝ }
 {
     let sensors = counts::sensors(tables[tables::PORTS]);
-    let n = tables[tables::MODES].len() / mode::WIDTH;
+    let modes = tables[tables::MODES];
     let mut at = 1;
-    let mut m = 0;
-    while m < n {
+    let mut m = Mode::of(0);
+    while modes::declared(modes, m) {
         at = mark_mode(tables, sensors, m, at, delays);
-        m += 1;
+        m = m.next();
     }
 }
 

@@ -1,6 +1,5 @@
 -- What the two calls answer. A fresh state: a number, and all 0, or the first values. An advance: a number that is given before anything
 -- runs, with the state as it was, or what its step comes to.
--- Assumes nothing.
 use Prim.Native.Nat.{ℕ, zero, suc, _<_}
 use mathlib.Core.Path.{_≡_, sym}
 use native.Mathlib.Omega.{arith}
@@ -16,30 +15,30 @@ use Rattle.machine.specs.Instant.{Outcome}
 use Rattle.machine.specs.Advance.{stateOf, freshAnswer, Advance, step, answer, advanceVerdict, advanceAnswer}
 
 module _ (T : Tables) where
-  -- a program that is refused: all 0
+  -- the fresh state of a program that is refused is all 0
   pub fresh-refused : (n : ℕ) → n ≡ programVerdict T → acceptedNumber < n → record { number = n; state = stateOf (replicate maxPorts (pos 0)) } ≡ freshAnswer T
   unfolding freshAnswer
   fresh-refused zero e l = absurd (omega arith)
   fresh-refused (suc n) e l = rw (sym e, freshAnswer)
 
-  -- one that is accepted: the first values
+  -- the fresh state of a program that is accepted has the first values
   pub fresh-accepted : programVerdict T ≡ acceptedNumber
       → record { number = acceptedNumber; state = stateOf (programOf T .first) } ≡ freshAnswer T
   unfolding freshAnswer
   fresh-accepted e = rw (e, freshAnswer)
 
 module _ (L : Advance) where
-  -- what an advance runs
+  -- the step that an advance runs
   abbrev pub outcome : Outcome
   outcome = step (programOf (L .tables)) (instructions (L .code)) (L .schedule) (L .lent) (L .state)
 
-  -- a number before anything runs: the state as it was
+  -- an advance that is refused before anything runs hands the state back as it was
   pub advance-refused : (n : ℕ) → n ≡ advanceVerdict L → acceptedNumber < n → record { number = n; state = L .state } ≡ advanceAnswer L
   unfolding advanceAnswer
   advance-refused zero e l = absurd (omega arith)
   advance-refused (suc n) e l = rw (sym e, advanceAnswer)
 
-  -- none: the step
+  -- an advance with no number before anything runs answers what its step comes to
   pub advance-steps : advanceVerdict L ≡ acceptedNumber → answer (L .state) outcome ≡ advanceAnswer L
   unfolding advanceAnswer
   advance-steps e = rw (e, advanceAnswer)

@@ -1,6 +1,5 @@
 -- The tests at an instruction decide the claims of specs/Comes.antt: which number it is refused with, that it is passed, that it is a
 -- `return`; so a stretch of instructions is one in the claims' words, and so is the end of an instant.
--- Assumes nothing.
 use Prim.Native.Nat.{ℕ, zero, suc}
 use mathlib.Core.Path.{_≡_, refl, sym, ap, subst}
 use mathlib.Core.Bool.{Bool, true, false}
@@ -17,10 +16,10 @@ use Rattle.machine.specs.declared.At.{At}
 use Rattle.machine.specs.Instruction.{isFaulty, timeBad, TimeBad, stillRunning, StillRunning, executes}
 use Rattle.machine.specs.Instant.{isReturn, refusalAt, Goes, Ends}
 use Rattle.machine.specs.Advance.{Advance}
-use Rattle.machine.specs.Comes.{program, code, begin, standing, FaultyAt, TimeBadAt, RunningAt, Passed, Comes, Returns}
+use Rattle.machine.specs.Comes.{program, code, instantStart, standing, FaultyAt, TimeBadAt, RunningAt, Passed, Comes, Returns}
 use Rattle.machine.proofs.Instructions.{faulty-says, time-says, running-says}
 
--- only `return` is one
+-- the test of a `return` says that the instruction is `return`
 return-says : (o : Op) → Says (isReturn o) (o ≡ return)
 return-says o = record { yes = is o; no = λ e q. clash (ap isReturn q) e }
   where
@@ -83,7 +82,7 @@ module _ (L : Advance) where
   abbrev Stretch : ℕ → At → At → Type 0
   Stretch n a b = Goes (program L) (L .lent .readings) (L .lent .times) (code L) n a b
 
-  -- "at one instruction the order is 20, 19, 16, 17"
+  -- the number that the tests give is that of the claims: "at one instruction the order is 20, 19, 16, 17"
   pub instruction-refused : (a : At) (n : ℕ) → (number a ≡ n) ↔ Order (FaultyAt L a) (TimeBadAt L a) (RunningAt L a) n
   instruction-refused a n =
       in-order (FaultyAt L a) (TimeBadAt L a) (RunningAt L a)
@@ -92,7 +91,7 @@ module _ (L : Advance) where
       (faulty-says (program L) (length (code L)) (a .planned) (standing L a)) (time-says (program L) (L .lent .times) (standing L a))
       (running-says (a .state) (standing L a)) n
 
-  -- no test refuses it: no claim of a refusal holds
+  -- of an instruction that no test refuses, no claim of a refusal holds
   cleared : (a : At) → number a ≡ acceptedNumber → (FaultyAt L a → ⊥) × (TimeBadAt L a → ⊥) × (RunningAt L a → ⊥)
   cleared a r = go (instruction-refused a acceptedNumber .0 r)
     where
@@ -124,32 +123,32 @@ module _ (L : Advance) where
           let c = cleared a r in
           record { not-faulty = c .0; in-time = c .1; not-running = c .2; no-return = return-says (standing L a) .no i }
 
-  -- one instruction more at the end of a stretch
+  -- a stretch goes on with one instruction more at its end
   more : (n : ℕ) (a b c : At) → Stretch n a b → number b ≡ acceptedNumber → isReturn (standing L b) ≡ false → next b ≡ c
       → Stretch (suc n) a c
   more zero a b c e r i q = subst (λ (x : At). Stretch 1 x c) (sym e) (r, i, q)
   more (suc n) a b c g r i q = (g .0, g .1, more n (next a) b c (g .2) r i q)
 
-  -- the last instruction of a stretch
+  -- a stretch of some instructions has a last one
   last-of : (n : ℕ) (a c : At) → Stretch (suc n) a c → (b : At) × Stretch n a b × (number b ≡ acceptedNumber) × (isReturn (standing L b) ≡ false) × (next b ≡ c)
   last-of zero a c g = (a, refl, g .0, g .1, g .2)
   last-of (suc n) a c g = let (b, s, r, i, q) = last-of n (next a) c (g .2) in (b, (g .0, g .1, s), r, i, q)
 
   -- the claims' stretch from the instant's begin is that of the tests
-  pub comes-goes : (n : ℕ) (a : At) → Comes L n a → Stretch n (begin L) a
+  pub comes-goes : (n : ℕ) (a : At) → Comes L n a → Stretch n (instantStart L) a
   comes-goes zero a e = e
-  comes-goes (suc n) a (b, c, p, q) = let w = passed-says b .0 p in more n (begin L) b a (comes-goes n b c) (w .0) (w .1) q
+  comes-goes (suc n) a (b, c, p, q) = let w = passed-says b .0 p in more n (instantStart L) b a (comes-goes n b c) (w .0) (w .1) q
 
-  pub goes-comes : (n : ℕ) (a : At) → Stretch n (begin L) a → Comes L n a
+  pub goes-comes : (n : ℕ) (a : At) → Stretch n (instantStart L) a → Comes L n a
   goes-comes zero a e = e
-  goes-comes (suc n) a g = let (b, s, r, i, q) = last-of n (begin L) a g in (b, goes-comes n b s, passed-says b .1 (r, i), q)
+  goes-comes (suc n) a g = let (b, s, r, i, q) = last-of n (instantStart L) a g in (b, goes-comes n b s, passed-says b .1 (r, i), q)
 
-  -- so an instant that ends does so in their words
+  -- an instant that ends by the tests does so in the words of the claims
   pub returns : (u : State) → Returns L u
-      ↔ ((L .state .remaining ≡ 0) × Ends (program L) (L .lent .readings) (L .lent .times) (code L) (length (code L)) (begin L) u)
+      ↔ ((L .state .remaining ≡ 0) × Ends (program L) (L .lent .readings) (L .lent .times) (code L) (length (code L)) (instantStart L) u)
   returns u = (there, back)
     where
-      there : Returns L u → (L .state .remaining ≡ 0) × Ends (program L) (L .lent .readings) (L .lent .times) (code L) (length (code L)) (begin L) u
+      there : Returns L u → (L .state .remaining ≡ 0) × Ends (program L) (L .lent .readings) (L .lent .times) (code L) (length (code L)) (instantStart L) u
       there w = (
         w .reaches .no-tick-left,
         record {
@@ -163,7 +162,7 @@ module _ (L : Advance) where
         },
       )
 
-      back : (L .state .remaining ≡ 0) × Ends (program L) (L .lent .readings) (L .lent .times) (code L) (length (code L)) (begin L) u → Returns L u
+      back : (L .state .remaining ≡ 0) × Ends (program L) (L .lent .readings) (L .lent .times) (code L) (length (code L)) (instantStart L) u → Returns L u
       back (z, w) = record {
         at = w .last;
         reaches = record { no-tick-left = z; before = w .before; in-count = w .in-count; comes = goes-comes (w .before) (w .last) (w .goes) };

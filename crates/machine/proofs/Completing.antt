@@ -1,4 +1,4 @@
--- The local outputs after a tick of a task: where it completes, and where it does not. Assumes nothing.
+-- The local outputs after a tick of a task: where it completes, and where it does not.
 use Prim.Native.Nat.{ℕ}
 use mathlib.Core.Path.{_≡_, refl}
 use mathlib.Core.Bool.{Bool, true, false}
@@ -24,7 +24,7 @@ outputs-done P results s t e = rw (eq-eqb (leftOf (s .left) t) 1 e, outputsAt)
 pub outputs-same : (P : Program) (results : List ℤ) (s : State) (t : ℕ) → (leftOf (s .left) t ≡ 1 → ⊥) → outputsAfter P results s t ≡ s .outputs
 outputs-same P results s t n = rw (ne-eqb (leftOf (s .left) t) 1 n, outputsAt)
 
--- there are as many local outputs after it
+-- there are as many local outputs after a tick of a task as before
 pub outputs-length : (P : Program) (results : List ℤ) (s : State) (t : ℕ) → length (outputsAfter P results s t) ≡ length (s .outputs)
 outputs-length P results s t = go (eqb (leftOf (s .left) t) 1)
   where

@@ -1,5 +1,5 @@
 -- What an advance answers, each number under exactly its condition, in the words of specs/Comes.antt: a number of its static verdict, and
--- where that is 0, one of 16 to 20 or 0. Assumes nothing.
+-- where that is 0, one of 16 to 20 or 0.
 use Prim.Native.Nat.{ℕ, _≤_, _<_}
 use mathlib.Core.Path.{_≡_, refl, sym, ap, subst, _∙_}
 use mathlib.Core.Logic.{_⊎_, inl, inr, ⊎-elim, _↔_}
@@ -25,7 +25,7 @@ answered s (ok u) n l = (λ e. absurd (omega (arith, e)), λ e. absurd (ok-not-s
 answered s (stop m) n l = (λ e. ap stop e, λ e. stopped e)
 
 module _ (L : Advance) where
-  -- the step is refused with n
+  -- the step of an advance is refused with n
   abbrev Stops : ℕ → Type 0
   Stops n = InstantStops L n ⊎ ((n ≡ collisionRefused) × Collides L)
 
@@ -41,14 +41,14 @@ module _ (L : Advance) where
   arises n (inl (inr (inr (inr w)))) = omega (arith, w .0)
   arises n (inr w) = omega (arith, w .0)
 
-  -- a static number is the answer's; without one the step decides
+  -- a number of the static verdict is the answer's; without one the step decides
   given : acceptedNumber < advanceVerdict L → advanceAnswer L .number ≡ advanceVerdict L
   given l = sym (ap (λ (a : Advanced). a .number) (advance-refused L (advanceVerdict L) refl l))
 
   stepped : advanceVerdict L ≡ acceptedNumber → advanceAnswer L .number ≡ answer (L .state) (outcome L) .number
   stepped z = sym (ap (λ (a : Advanced). a .number) (advance-steps L z))
 
-  -- 1 to 13 and 21: exactly where the static verdict gives that number
+  -- an advance answers 1 to 13 and 21 exactly where the static verdict gives that number
   pub advance-judged : (n : ℕ) → Static n → (advanceAnswer L .number ≡ n) ↔ (advanceVerdict L ≡ n)
   advance-judged n s = (λ e. there (decLt acceptedNumber (advanceVerdict L)) e s, λ e. given (⊎-elim (λ w. omega (arith, e, w .0)) (λ w. omega (arith, e, w)) s) ∙ e)
     where
@@ -60,7 +60,7 @@ module _ (L : Advance) where
           let a = arises n (outcome-stops L n .0 q) in
           absurd (⊎-elim (λ w. omega (arith, a .0, w .1)) (λ w. omega (arith, a .1, w)) s)
 
-  -- 16 to 20: exactly where it gives none, and the step is refused so
+  -- an advance answers 16 to 20 exactly where the static verdict gives none, and the step is refused so
   pub advance-arises : (n : ℕ) → Arising n → (advanceAnswer L .number ≡ n) ↔ ((advanceVerdict L ≡ acceptedNumber) × Stops n)
   advance-arises n a = (λ e. there (decLt acceptedNumber (advanceVerdict L)) e, back)
     where
@@ -73,7 +73,7 @@ module _ (L : Advance) where
       back : (advanceVerdict L ≡ acceptedNumber) × Stops n → advanceAnswer L .number ≡ n
       back (z, w) = stepped z ∙ answered (L .state) (outcome L) n (omega (arith, a .0)) .1 (outcome-stops L n .1 w)
 
-  -- 0: exactly where the static verdict gives none and the tick passes
+  -- an advance answers 0 exactly where the static verdict gives no number and the tick passes
   pub advance-accepted : (advanceAnswer L .number ≡ acceptedNumber) ↔ ((advanceVerdict L ≡ acceptedNumber) × TickPasses L)
   advance-accepted =
       (λ e. (none (decLt acceptedNumber (advanceVerdict L)) e, outcome-passes L (advanceAnswer L .state) (accepted L e)), back)
@@ -85,7 +85,7 @@ module _ (L : Advance) where
       back : (advanceVerdict L ≡ acceptedNumber) × TickPasses L → advanceAnswer L .number ≡ acceptedNumber
       back (z, w) = stepped z ∙ ap (λ (o : Outcome). answer (L .state) o .number) (passes-outcome L w .1)
 
-  -- there is no other number
+  -- an advance answers no other number
   pub advance-only : (advanceAnswer L .number ≡ acceptedNumber) ⊎ (Static (advanceAnswer L .number) ⊎ Arising (advanceAnswer L .number))
   advance-only = go (decLt acceptedNumber (advanceVerdict L))
     where
@@ -102,7 +102,7 @@ module _ (L : Advance) where
       go (no l) =
           subst (λ (n : ℕ). (n ≡ acceptedNumber) ⊎ (Static n ⊎ Arising n)) (sym (stepped (omega (arith, l)))) (step (outcome L) refl)
 
-  -- 19
+  -- an advance answers 19 exactly where the static verdict gives no number and the E code faults
   pub advance-faulty : (advanceAnswer L .number ≡ faultyRefused) ↔ ((advanceVerdict L ≡ acceptedNumber) × Faults L)
   advance-faulty =
       let a = advance-arises faultyRefused (omega arith) in (λ e. (a .0 e .0, only (a .0 e .1)), λ w. a .1 (w .0, inl (inl (refl, w .1))))
@@ -114,7 +114,7 @@ module _ (L : Advance) where
       only (inl (inr (inr (inr w)))) = absurd (omega (arith, w .0))
       only (inr w) = absurd (omega (arith, w .0))
 
-  -- 16
+  -- an advance answers 16 exactly where the static verdict gives no number and a task is lent a bad time
   pub advance-time : (advanceAnswer L .number ≡ timeRefused) ↔ ((advanceVerdict L ≡ acceptedNumber) × TimeWrong L)
   advance-time = let a = advance-arises timeRefused (omega arith) in (λ e. (a .0 e .0, only (a .0 e .1)), λ w. a .1 (w .0, inl (inr (inl (refl, w .1)))))
     where
@@ -125,7 +125,7 @@ module _ (L : Advance) where
       only (inl (inr (inr (inr w)))) = absurd (omega (arith, w .0))
       only (inr w) = absurd (omega (arith, w .0))
 
-  -- 17
+  -- an advance answers 17 exactly where the static verdict gives no number and a task is still running
   pub advance-overruns : (advanceAnswer L .number ≡ overrunRefused) ↔ ((advanceVerdict L ≡ acceptedNumber) × Overruns L)
   advance-overruns =
       let a = advance-arises overrunRefused (omega arith) in
@@ -138,7 +138,7 @@ module _ (L : Advance) where
       only (inl (inr (inr (inr w)))) = absurd (omega (arith, w .0))
       only (inr w) = absurd (omega (arith, w .0))
 
-  -- 20
+  -- an advance answers 20 exactly where the static verdict gives no number and the E code runs on
   pub advance-runs-on : (advanceAnswer L .number ≡ countRefused) ↔ ((advanceVerdict L ≡ acceptedNumber) × RunsOn L)
   advance-runs-on =
       let a = advance-arises countRefused (omega arith) in
@@ -151,7 +151,7 @@ module _ (L : Advance) where
       only (inl (inr (inr (inr w)))) = w .1
       only (inr w) = absurd (omega (arith, w .0))
 
-  -- 18
+  -- an advance answers 18 exactly where the static verdict gives no number and two suppliers run in the tick
   pub advance-collides : (advanceAnswer L .number ≡ collisionRefused) ↔ ((advanceVerdict L ≡ acceptedNumber) × Collides L)
   advance-collides =
       let a = advance-arises collisionRefused (omega arith) in (λ e. (a .0 e .0, only (a .0 e .1)), λ w. a .1 (w .0, inr (refl, w .1)))

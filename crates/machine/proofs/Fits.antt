@@ -1,5 +1,4 @@
 -- Numbers 1 and 21 of an advance: the tests of what is lent and of the state bar their claims.
--- Assumes nothing.
 use Rattle.theory.specs.Claim.{Bars}
 use Rattle.theory.proofs.Bools.{_or_, bars-lt, bars-le, bars-as}
 use Rattle.theory.proofs.Search.{bars-any}

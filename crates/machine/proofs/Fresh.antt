@@ -1,5 +1,5 @@
 -- A fresh state's number is the program verdict's; refused, the state is all 0; accepted, it has the ports' first values and 0 elsewhere.
--- Assumes nothing; of each state, that its number is given.
+-- Assumes of each state that its number is given.
 use Prim.Native.Nat.{ℕ, _+_, _*_, _≤_, _<_}
 use mathlib.Core.Path.{_≡_, refl, sym, ap, subst, _∙_}
 use native.Mathlib.Decide.{decLt}
@@ -21,7 +21,7 @@ use Rattle.machine.specs.Fresh.{FirstValues, Fresh, AllZero}
 use Rattle.machine.proofs.Answered.{fresh-refused, fresh-accepted}
 
 module _ (T : Tables) where
-  -- the number is the program verdict's
+  -- the number of a fresh state is the program verdict's
   pub fresh-number : freshAnswer T .number ≡ programVerdict T
   fresh-number = go (decLt acceptedNumber (programVerdict T))
     where
@@ -31,7 +31,7 @@ module _ (T : Tables) where
           let z : programVerdict T ≡ acceptedNumber = omega (arith, l) in
           sym (ap (λ (a : Advanced). a .number) (fresh-accepted T z)) ∙ sym z
 
-  -- refused, it is all 0
+  -- a fresh state that is refused is all 0
   pub fresh-zero : (freshAnswer T .number ≡ acceptedNumber → ⊥) → AllZero (freshAnswer T .state)
   fresh-zero h = go (decLt acceptedNumber (programVerdict T))
     where
@@ -44,7 +44,7 @@ module _ (T : Tables) where
           })
       go (no l) = absurd (h (fresh-number ∙ omega (arith, l)))
 
-  -- the first values of tables that have their shape
+  -- tables that have their shape give the first value of each declared port, and 0 elsewhere
   first-values : Shaped T → FirstValues T (programOf T .first)
   first-values s = record {
     all = each-length (portFirst T) maxPorts 0;
@@ -60,7 +60,7 @@ module _ (T : Tables) where
           let past : length (programOf T .first) ≤ p = omega (arith, h, each-length (portFirst T) maxPorts 0) in
           List·getD-eq-default (programOf T .first) (pos 0) past
 
-  -- accepted, it has the first values in the first two and 0 elsewhere
+  -- a fresh state that is accepted has the first values in the first two and 0 elsewhere
   pub fresh-first : freshAnswer T .number ≡ acceptedNumber → Fresh T (freshAnswer T .state)
   fresh-first e =
       let z : programVerdict T ≡ acceptedNumber = sym fresh-number ∙ e in

@@ -1,5 +1,4 @@
 -- At one instruction: the tests of 19, 16 and 17 say their claims, and call numbers fall into three ranges.
--- Assumes nothing.
 use Prim.Native.Nat.{ℕ, _+_, _-_, _≤_, _<_}
 use mathlib.Core.Path.{_≡_, refl, ap}
 use mathlib.Core.Bool.{Bool, true, false}
@@ -19,9 +18,10 @@ use Rattle.rules.specs.Fields.{InRange}
 use Rattle.rules.proofs.Fields.{range-says}
 use Rattle.code.specs.Op.{Op, call, schedule, branch, jump, future, return, faulty}
 use Rattle.machine.specs.declared.State.{State}
-use Rattle.machine.specs.Instruction.{Call, driverCall, outputCall, sensorCall, callOf, namesNothing, NamesNothing, isFaulty, Faulty, timeBad, TimeBad, stillCalled, StillCalled, stillRunning, StillRunning}
+use Rattle.machine.specs.Instruction.{Call, driverCall, outputCall, sensorCall, callOf, namesNothing, NamesNothing, isFaulty}
+use Rattle.machine.specs.Instruction.{Faulty, timeBad, TimeBad, stillCalled, StillCalled, stillRunning, StillRunning}
 
--- 0..999 a declared driver, 1000 + t the output copy of task t, 2000 + p the reading of sensor p
+-- call numbers by range: 0..999 name a driver, 1000 + t the output copy of task t, 2000 + p the reading of sensor p
 pub driver-range : (n : ℕ) → n < firstOutputCall → callOf n ≡ driverCall n
 driver-range n l = rw (lt-ltb n firstOutputCall l, callOf)
 
@@ -39,7 +39,7 @@ sensor-range p =
     let e : firstSensorCall + p - firstSensorCall ≡ p = omega arith in
     rw (a, callOf) (rw b (ap sensorCall e))
 
--- 19
+-- the tests of 19 say its claims: of a call, and of an instruction
 names-says : (P : Program) (c : Call) → Says (namesNothing P c) (NamesNothing P c)
 names-says P (driverCall d) = says-le _ _
 names-says P (outputCall t) = says-le _ _
@@ -65,7 +65,7 @@ faulty-says P n planned (future d a) =
 faulty-says P n planned return = says-false planned
 faulty-says P n planned faulty = record { yes = λ e. tt; no = λ e. clash {b = true} refl e }
 
--- 16
+-- the test of 16 says its claim
 pub time-says : (P : Program) (times : List ℤ) (o : Op) → Says (timeBad P times o) (TimeBad P times o)
 time-says P times (call c) = says-never
 time-says P times (schedule t) = says-not (range-says (numAt times t) (task P t .worst))
@@ -75,7 +75,7 @@ time-says P times (future d a) = says-never
 time-says P times return = says-never
 time-says P times faulty = says-never
 
--- 17
+-- the tests of 17 say its claims: of a call, and of an instruction
 called-says : (s : State) (c : Call) → Says (stillCalled s c) (StillCalled s c)
 called-says s (driverCall d) = says-never
 called-says s (outputCall t) = says-le _ _

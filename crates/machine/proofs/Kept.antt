@@ -1,5 +1,4 @@
 -- What an instant of E code leaves as it was: instruction by instruction, none writes more than specs/Moves.antt says.
--- Assumes nothing.
 use Prim.Native.Nat.{ℕ, zero, suc, _<_}
 use mathlib.Core.Path.{_≡_, refl, sym, subst, _∙_}
 use mathlib.Core.Bool.{Bool, true, false, _||_, not}
@@ -29,11 +28,12 @@ use Rattle.code.specs.Op.{Op, call, schedule, branch, jump, future, return, fau
 use Rattle.machine.specs.declared.State.{State}
 use Rattle.machine.specs.declared.At.{At}
 use Rattle.machine.specs.Change.{withPorts, withLeft}
-use Rattle.machine.specs.Instruction.{Call, driverCall, outputCall, sensorCall, callOf, isFaulty, namesNothing, timeBad, stillRunning, instructionRefusals, called, executes}
+use Rattle.machine.specs.Instruction.{Call, driverCall, outputCall, sensorCall, callOf, isFaulty, namesNothing, timeBad}
+use Rattle.machine.specs.Instruction.{stillRunning, instructionRefusals, called, executes}
 use Rattle.machine.specs.Instant.{isReturn, fetch, refusalAt, startAt, Goes, Ends}
 use Rattle.machine.specs.Moves.{Untouched, Released, Begins, InstantKeeps}
 
--- a number that is not in a list, where another is
+-- a number that is not in a list is not one that is
 apart : (p q : ℕ) (xs : List ℕ) → member q xs ≡ true → member p xs ≡ false → p ≡ q → ⊥
 apart p q xs m n e = clash (subst (λ (x : ℕ). member x xs ≡ true) (sym e) m) n
 
@@ -47,7 +47,7 @@ module _ (P : Program) (readings times : List ℤ) (code : List Op) (s : State) 
   Planned true u = Begins code u
   Planned false u = Unit {0}
 
-  -- what was left as it was in s, up to here
+  -- what an instant from s has left as it was when it comes to a
   record Kept (a : At) : Type 0 where
     pub time : a .state .time ≡ s .time
     pub outputs : a .state .outputs ≡ s .outputs
@@ -65,7 +65,7 @@ module _ (P : Program) (readings times : List ℤ) (code : List Op) (s : State) 
   called-ports u (sensorCall q) n p h =
       getD-set-other (u .ports) q p _ (pos 0) (apart p q (P .sensors) (bars-not (says-itself (member q (P .sensors))) .ok n) (h .no-sensor))
 
-  -- what a unit begins with is in neither the ports nor the remaining times
+  -- a unit that begins does so with other ports or other remaining times too
   plan-ports : (b : Bool) (u : State) (v : List ℤ) → Planned b u → Planned b (withPorts u v)
   plan-ports true u v h =
       record { here = h .here; holds-future = h .holds-future; delay = h .delay; to = h .to; elapsed = h .elapsed; positions = h .positions }
@@ -76,7 +76,7 @@ module _ (P : Program) (readings times : List ℤ) (code : List Op) (s : State) 
       record { here = h .here; holds-future = h .holds-future; delay = h .delay; to = h .to; elapsed = h .elapsed; positions = h .positions }
   plan-left false u r h = tt
 
-  -- only the ports are others, and of them none that is untouched
+  -- an instruction that changes only ports, and none that is untouched, keeps what was kept
   ports-kept : (a : At) (v : List ℤ) (to : ℕ) → ((p : ℕ) → Untouched P p → valueOf v p ≡ valueOf (a .state .ports) p) → Kept a
       → Kept (record { address = to; planned = a .planned; state = withPorts (a .state) v })
   ports-kept a v to h k = record {
@@ -93,7 +93,7 @@ module _ (P : Program) (readings times : List ℤ) (code : List Op) (s : State) 
   call-kept a (outputCall t) to n k = ports-kept a _ to (called-ports (a .state) (outputCall t) n) k
   call-kept a (sensorCall q) to n k = ports-kept a _ to (called-ports (a .state) (sensorCall q) n) k
 
-  -- a release: the task had ended, also in s, since no instruction ends one
+  -- after a release each task's time is as in s or released: the task had ended, also in s, since no instruction ends one
   release-kept : (u : State) (t : ℕ) → InRange (numAt times t) (task P t .worst) → leftOf (u .left) t ≡ 0
       → ((j : ℕ) → Released P times j (leftOf (s .left) j) (leftOf (u .left) j))
       → (j : ℕ) → Released P times j (leftOf (s .left) j) (leftOf (set (u .left) t (numAt times t)) j)
@@ -119,7 +119,7 @@ module _ (P : Program) (readings times : List ℤ) (code : List Op) (s : State) 
       go (yes l) = l
       go (no l) = absurd (not-future (sym (List·getD-eq-default code faulty (omega (arith, l))) ∙ e))
 
-  -- an instruction that is not refused and no `return`
+  -- an instruction that is not refused and no `return` keeps what was kept
   step-kept : (a : At) (o : Op) → fetch P readings times code a ≡ o → isFaulty P (length code) (a .planned) o ≡ false → timeBad P times o ≡ false
       → stillRunning (a .state) o ≡ false → isReturn o ≡ false → Kept a → Kept (executes P readings times o a)
   step-kept a (call c) e f t r n k = call-kept a (callOf c) _ f k
@@ -152,11 +152,11 @@ module _ (P : Program) (readings times : List ℤ) (code : List Op) (s : State) 
   step-kept a return e f t r n k = clash {b = true} refl n
   step-kept a faulty e f t r n k = clash {b = true} refl f
 
-  -- an instruction that is not refused: no test of it applies
+  -- no test applies to an instruction that is not refused
   clear : (a : At) → refusalAt P readings times code a ≡ acceptedNumber → Clear (instructionRefusals P readings times (length code) (fetch P readings times code a)) a
   clear a e = verdict-clear (instructionRefusals P readings times (length code) (fetch P readings times code a)) a (omega arith) e
 
-  -- a stretch of them
+  -- a stretch of instructions that are not refused and no `return` keeps what was kept
   goes-kept : (n : ℕ) (a b : At) → Goes P readings times code n a b → Kept a → Kept b
   goes-kept zero a b g k = subst Kept g k
   goes-kept (suc n) a b g k =
@@ -164,11 +164,11 @@ module _ (P : Program) (readings times : List ℤ) (code : List Op) (s : State) 
       goes-kept n (executes P readings times (fetch P readings times code a) a) b (g .2)
       (step-kept a (fetch P readings times code a) refl (c .0) (c .1 .0) (c .1 .1 .0) (g .1) k)
 
-  -- nothing has happened yet
+  -- at the begin of an instant all is as it was
   start-kept : Kept (startAt P readings times code s)
   start-kept = record { time = refl; outputs = refl; ports = λ p w. refl; left = λ t. inl refl; plan = tt }
 
-  -- a `return` that is not refused: a `future` was executed
+  -- before a `return` that is not refused a `future` was executed
   returned : (a : At) (o : Op) → isReturn o ≡ true → isFaulty P (length code) (a .planned) o ≡ false → a .planned ≡ true
   returned a (call c) r f = clash {b = false} r refl
   returned a (schedule t) r f = clash {b = false} r refl

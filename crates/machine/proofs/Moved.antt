@@ -1,5 +1,4 @@
 -- An accepted advance changes only what specs/Moves.antt says: a tick of the schedules, and the whole step.
--- Assumes nothing.
 use Prim.Native.Nat.{ℕ, _-_, _≤_, _<_}
 use mathlib.Core.Path.{_≡_, refl, sym, ap, subst, _∙_}
 use mathlib.Core.Bool.{Bool, true, false}
@@ -19,7 +18,7 @@ use Rattle.cells.specs.Limits.{suppliers}
 use Rattle.program.specs.Program.{Program, task}
 use Rattle.program.specs.Ports.{valueOf, takes}
 use Rattle.program.proofs.Ports.{takes-at, takes-miss}
-use Rattle.runs.specs.Tick.{leftOf, run, after}
+use Rattle.runs.specs.Tick.{leftOf, work, after}
 use Rattle.machine.specs.declared.State.{State}
 use Rattle.machine.specs.declared.Advanced.{Advanced}
 use Rattle.machine.specs.Instant.{Outcome, ok, stop}
@@ -36,7 +35,7 @@ use Rattle.machine.proofs.Comes.{returns}
 use Rattle.machine.proofs.Stopped.{before-tick}
 use Rattle.machine.proofs.Kept.{instant-keeps}
 
--- the remaining times after a tick of task t
+-- after a tick of task t it has a tick less to run
 less-at : (left : List ℕ) (t : ℕ) → leftOf (set left t (leftOf left t - 1)) t ≡ leftOf left t - 1
 less-at left t = go (decLt t (length left))
   where
@@ -55,7 +54,7 @@ module _ (P : Program) (results : List ℤ) (s : State) (t : ℕ) where
       go true = puts-other (pos 0) (takes (valueOf results) (task P t .outputs)) (s .outputs) p (takes-miss (valueOf results) (task P t .outputs) p n)
       go false = refl
 
-  -- and without completing, all do
+  -- a local output of another task stays, and where the task does not complete, all do
   outputs-stay : (p : ℕ) → (member p (task P t .outputs) ≡ false) ⊎ (leftOf (s .left) t ≡ 1 → ⊥) → valueOf (outputsAfter P results s t) p ≡ valueOf (s .outputs) p
   outputs-stay p (inl n) = outputs-miss p n
   outputs-stay p (inr d) = ap (λ (v : List ℤ). valueOf v p) (outputs-same P results s t d)
@@ -64,7 +63,7 @@ module _ (P : Program) (results : List ℤ) (s : State) (t : ℕ) where
 positions-rise : (S : List ℤ) (s : State) (j : ℕ) → j < suppliers → getD (s .positions) j 0 ≤ getD (each (movedOf S s) suppliers 0) j 0
 positions-rise S s j l = let e = each-at (movedOf S s) suppliers j 0 l in omega (arith, e)
 
--- a tick that is not refused
+-- a tick that is not refused changes only what the claims say
 pub tick-passes : (P : Program) (S results : List ℤ) (s u : State) → tickAll P S results s ≡ ok u → Passes P S results s u
 tick-passes P S results s u = go (running S s) refl
   where
@@ -83,7 +82,7 @@ tick-passes P S results s u = go (running S s) refl
           works = subst (λ (w : Who). Works P results w s v) (sym e) (refl, refl);
         })
     go (one t) e q =
-        let v = afterTick S s (after (run t) (s .left)) (outputsAfter P results s t) in
+        let v = afterTick S s (after (work t) (s .left)) (outputsAfter P results s t) in
         subst (Passes P S results s) (finished q)
         (record {
           time = refl;
@@ -118,7 +117,7 @@ module _ (L : Advance) where
           let e = advance-steps L v in
           end (outcome L) refl (ap (λ (a : Advanced). a .number) e ∙ z) ∙ ap (λ (a : Advanced). ok (a .state)) e
 
-  -- the state before its tick
+  -- an accepted advance has a state before its tick, from which the tick passes
   before : advanceAnswer L .number ≡ acceptedNumber
       → (v : State) × BeforeTick L v × Passes (program L) (L .schedule) (L .lent .results) v (advanceAnswer L .state)
   before z =
@@ -128,7 +127,7 @@ module _ (L : Advance) where
         tick-passes (program L) (L .schedule) (L .lent .results) (w .0) (advanceAnswer L .state) (w .2),
       )
 
-  -- so an accepted advance changes only what the claims say
+  -- an accepted advance changes only what the claims say
   pub advance-moves : advanceAnswer L .number ≡ acceptedNumber → Advances L (advanceAnswer L .state)
   advance-moves z = let (v, b, p) = before z in record { between = v; begun = begun v b; passes = p }
     where
@@ -138,7 +137,7 @@ module _ (L : Advance) where
       begun v (inr w) =
           inr (w .reaches .no-tick-left, instant-keeps (program L) (L .lent .readings) (L .lent .times) (code L) (L .state) v (returns L v .0 w .1))
 
-  -- and an instant of it came to its end within as many instructions as the code has
+  -- an instant of an accepted advance came to its end within as many instructions as the code has
   pub instant-counted : advanceAnswer L .number ≡ acceptedNumber → L .state .remaining ≡ 0 → (u : State) × Returns L u
   instant-counted z r = let (v, b, p) = before z in (v, ends v b)
     where

@@ -1,5 +1,4 @@
 -- The cases of an outcome, and of who runs, are told apart.
--- Assumes nothing.
 use Prim.Native.Nat.{ℕ}
 use mathlib.Core.Path.{_≡_}
 use native.Mathlib.Omega.{arith}

@@ -1,5 +1,5 @@
 -- The two parts of a step: the E code runs exactly where no tick of the unit remains, and then the tick; each is refused, or leaves a
--- state, exactly so. Assumes nothing.
+-- state, exactly so.
 use Prim.Native.Nat.{ℕ, zero, suc, _≤_, _<_}
 use mathlib.Core.Path.{_≡_, refl, sym, ap, _∙_}
 use mathlib.Core.List.{List}
@@ -18,11 +18,11 @@ use Rattle.machine.proofs.Outcomes.{ok-not-stop, finished}
 use Rattle.machine.proofs.Instants.{instant-ends, instant-stops}
 
 module _ (P : Program) (code : List Op) (readings times : List ℤ) (s : State) where
-  -- where so many ticks of the unit remain
+  -- what the E part comes to where n ticks of the unit remain
   abbrev begins : ℕ → Outcome
   begins n = elim n [ zero ↦ runInstant P readings times code s | suc k ↦ ok s ]
 
-  -- a tick remains: nothing is done
+  -- where a tick of the unit remains, the E part does nothing
   pub ready-waits : 0 < s .remaining → ready P code readings times s ≡ ok s
   ready-waits = go (s .remaining)
     where
@@ -30,11 +30,11 @@ module _ (P : Program) (code : List Op) (readings times : List ℤ) (s : State) 
       go zero l = absurd (omega arith)
       go (suc n) l = refl
 
-  -- none does: the E code runs
+  -- where no tick of the unit remains, the E code runs
   pub ready-runs : s .remaining ≡ 0 → ready P code readings times s ≡ runInstant P readings times code s
   ready-runs e = ap begins e
 
-  -- it leaves u: the state as it was, or as the instant left it
+  -- the E part leaves u exactly where u is the state as it was, or as the instant left it
   pub ready-leaves : (u : State)
       → (ready P code readings times s ≡ ok u)
       ↔ (((1 ≤ s .remaining) × (u ≡ s)) ⊎ ((s .remaining ≡ 0) × Ends P readings times code (length code) (startAt P readings times code s) u))
@@ -51,7 +51,7 @@ module _ (P : Program) (code : List Op) (readings times : List ℤ) (s : State) 
       back (inl w) = ready-waits (omega (arith, w .0)) ∙ ap ok (sym (w .1))
       back (inr w) = ready-runs (w .0) ∙ instant-ends P readings times code s u .1 (w .1)
 
-  -- it is refused: so is the instant
+  -- the E part is refused exactly where it runs and its instant is refused
   pub ready-stops : (n : ℕ)
       → (ready P code readings times s ≡ stop n)
       ↔ ((s .remaining ≡ 0)
@@ -71,11 +71,11 @@ module _ (P : Program) (code : List Op) (readings times : List ℤ) (s : State) 
           let z : s .remaining ≡ 0 = omega (arith, l) in (z, instant-stops P readings times code s n .0 (sym (ready-runs z) ∙ e))
 
 module _ (P : Program) (code : List Op) (S : List ℤ) (X : Lent) (s : State) where
-  -- the step after this outcome of its E part
+  -- what the step comes to after this outcome of its E part
   abbrev pub goes : Outcome → Outcome
   goes o = elim o [ ok u ↦ tickAll P S (X .results) u | stop n ↦ stop n ]
 
-  -- the step leaves u: the tick does, from what the E part left
+  -- a step that leaves u has a tick that does, from what the E part left
   pub step-leaves : (u : State) → step P code S X s ≡ ok u
       → (v : State) × (ready P code (X .readings) (X .times) s ≡ ok v) × (tickAll P S (X .results) v ≡ ok u)
   step-leaves u = go (ready P code (X .readings) (X .times) s) refl
@@ -85,7 +85,7 @@ module _ (P : Program) (code : List Op) (S : List ℤ) (X : Lent) (s : State) wh
       go (ok v) e q = (v, e, q)
       go (stop n) e q = absurd (ok-not-stop (sym q))
 
-  -- it is refused: its E part is, or the tick from what that left
+  -- the step is refused exactly where its E part is, or the tick from what that left
   pub step-refused : (n : ℕ)
       → (step P code S X s ≡ stop n)
       ↔ ((ready P code (X .readings) (X .times) s ≡ stop n)

@@ -1,5 +1,4 @@
 -- A refusal returns its number, and the state is as before; no step is refused with 0.
--- Assumes nothing.
 use Prim.Native.Nat.{ℕ, _≤_, _<_}
 use mathlib.Core.Path.{_≡_, refl, sym, ap, _∙_}
 use mathlib.Core.List.{List}
@@ -49,7 +48,7 @@ ready-number P code readings times s n e = number (ready-stops P code readings t
         end (inl x) = omega (arith, x .1)
         end (inr x) = omega (arith, x .1)
 
--- so 0 is given only where the state moves
+-- no step is refused with 0, so 0 is given only where the state moves
 pub step-number : (P : Program) (code : List Op) (S : List ℤ) (X : Lent) (s : State) (n : ℕ) → step P code S X s ≡ stop n
     → acceptedNumber < n
 step-number P code S X s n e = go (step-refused P code S X s n .0 e)

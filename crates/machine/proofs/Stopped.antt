@@ -1,5 +1,5 @@
 -- The step of an advance is refused exactly as specs/Comes.antt says: in its instant with 19, 16, 17 or 20, or in its tick with 18;
--- else the tick passes. Assumes nothing.
+-- else the tick passes.
 use Prim.Native.Nat.{ℕ, _≤_, _<_}
 use mathlib.Core.Path.{_≡_, refl, sym, ap, _∙_}
 use mathlib.Core.List.{List}
@@ -15,7 +15,8 @@ use Rattle.machine.specs.declared.At.{At}
 use Rattle.machine.specs.Instant.{Outcome, ok, stop, Ends, RefusedAt, Spent}
 use Rattle.machine.specs.Schedules.{Who, nobody, one, several, running, Collision, ticked, tickAll}
 use Rattle.machine.specs.Advance.{Advance, ready}
-use Rattle.machine.specs.Comes.{program, code, begin, FaultyAt, TimeBadAt, RunningAt, Reaches, RanAll, Faults, TimeWrong, Overruns, RunsOn, BeforeTick, Collides, TickPasses}
+use Rattle.machine.specs.Comes.{program, code, instantStart, FaultyAt, TimeBadAt, RunningAt, Reaches, RanAll, Faults, TimeWrong}
+use Rattle.machine.specs.Comes.{Overruns, RunsOn, BeforeTick, Collides, TickPasses}
 use Rattle.machine.proofs.Outcomes.{ok-not-stop}
 use Rattle.machine.proofs.Collide.{collides, tick-refused}
 use Rattle.machine.proofs.Ready.{ready-leaves, ready-stops, goes, step-leaves, step-refused}
@@ -37,10 +38,10 @@ module _ (L : Advance) where
   begins = ready (program L) (code L) (L .lent .readings) (L .lent .times) (L .state)
 
   abbrev Refused : ℕ → Type 0
-  Refused n = RefusedAt (program L) (L .lent .readings) (L .lent .times) (code L) (length (code L)) (begin L) n
+  Refused n = RefusedAt (program L) (L .lent .readings) (L .lent .times) (code L) (length (code L)) (instantStart L) n
 
   abbrev AllRun : ℕ → Type 0
-  AllRun n = Spent (program L) (L .lent .readings) (L .lent .times) (code L) (length (code L)) (begin L) n
+  AllRun n = Spent (program L) (L .lent .readings) (L .lent .times) (code L) (length (code L)) (instantStart L) n
 
   -- an instant is refused with n, in the words of document 01
   abbrev pub InstantStops : ℕ → Type 0
@@ -48,7 +49,7 @@ module _ (L : Advance) where
       ((n ≡ faultyRefused) × Faults L)
       ⊎ (((n ≡ timeRefused) × TimeWrong L) ⊎ (((n ≡ overrunRefused) × Overruns L) ⊎ ((n ≡ countRefused) × RunsOn L)))
 
-  -- at an instruction
+  -- an instant that is refused at an instruction is refused in the words of document 01
   reached : (n : ℕ) → L .state .remaining ≡ 0 → Refused n → InstantStops n
   reached n z r = go (instruction-refused L (r .last) n .0 (r .refused))
     where
@@ -74,7 +75,7 @@ module _ (L : Advance) where
     }),
   )
 
-  -- or because all were run
+  -- an instant that ran all its instructions is refused in the words of document 01
   ran : (n : ℕ) → L .state .remaining ≡ 0 → AllRun n → InstantStops n
   ran n z w = go (w .spent)
     where
@@ -91,7 +92,7 @@ module _ (L : Advance) where
       → (L .state .remaining ≡ 0) × (Refused n ⊎ AllRun n)
   spent n a r o = (r .no-tick-left, inr (record { last = a; goes = comes-goes L (length (code L)) a (r .comes); spent = o }))
 
-  -- exactly so the E part is refused
+  -- the E part is refused exactly as document 01 says of the instant
   instant-stops : (n : ℕ) → (begins ≡ stop n) ↔ InstantStops n
   instant-stops n = (λ e. there (stops .0 e), λ w. stops .1 (back w))
     where
@@ -109,28 +110,28 @@ module _ (L : Advance) where
       back (inr (inr (inl (e, (a, r, f, t, s))))) = refused n a r (omega (arith, e)) (inr (inr (inl (e, f, t, s))))
       back (inr (inr (inr (e, (a, r, i))))) = spent n a r (inl (i, e))
 
-  -- and exactly so it leaves the state before the tick
+  -- the E part leaves u exactly where u is the state before the tick
   pub before-tick : (u : State) → (begins ≡ ok u) ↔ BeforeTick L u
   before-tick u = (λ e. there (leaves .0 e), λ w. leaves .1 (back w))
     where
       leaves : (begins ≡ ok u)
           ↔ (((1 ≤ L .state .remaining) × (u ≡ L .state))
-          ⊎ ((L .state .remaining ≡ 0) × Ends (program L) (L .lent .readings) (L .lent .times) (code L) (length (code L)) (begin L) u))
+          ⊎ ((L .state .remaining ≡ 0) × Ends (program L) (L .lent .readings) (L .lent .times) (code L) (length (code L)) (instantStart L) u))
       leaves = ready-leaves (program L) (code L) (L .lent .readings) (L .lent .times) (L .state) u
 
       there : ((1 ≤ L .state .remaining) × (u ≡ L .state))
-          ⊎ ((L .state .remaining ≡ 0) × Ends (program L) (L .lent .readings) (L .lent .times) (code L) (length (code L)) (begin L) u)
+          ⊎ ((L .state .remaining ≡ 0) × Ends (program L) (L .lent .readings) (L .lent .times) (code L) (length (code L)) (instantStart L) u)
           → BeforeTick L u
       there (inl w) = inl w
       there (inr w) = inr (returns L u .1 w)
 
       back : BeforeTick L u
           → ((1 ≤ L .state .remaining) × (u ≡ L .state))
-          ⊎ ((L .state .remaining ≡ 0) × Ends (program L) (L .lent .readings) (L .lent .times) (code L) (length (code L)) (begin L) u)
+          ⊎ ((L .state .remaining ≡ 0) × Ends (program L) (L .lent .readings) (L .lent .times) (code L) (length (code L)) (instantStart L) u)
       back (inl w) = inl w
       back (inr w) = inr (returns L u .0 w)
 
-  -- the step is refused: in its instant, or with 18 in its tick
+  -- the step is refused exactly in its instant, or with 18 in its tick
   pub outcome-stops : (n : ℕ) → (outcome L ≡ stop n) ↔ (InstantStops n ⊎ ((n ≡ collisionRefused) × Collides L))
   outcome-stops n = (λ e. there (steps .0 e), λ w. steps .1 (back w))
     where
@@ -150,7 +151,7 @@ module _ (L : Advance) where
       back (inr (e, (v, b, c))) =
           inr (v, before-tick v .1 b, tick-refused (program L) (L .schedule) (L .lent .results) v n .1 (e, c))
 
-  -- it is not: the tick passes
+  -- where the step is not refused, the tick passes
   pub outcome-passes : (u : State) → outcome L ≡ ok u → TickPasses L
   outcome-passes u e =
       let (v, b, t) = step-leaves (program L) (code L) (L .schedule) (L .lent) (L .state) u e in (

@@ -20,18 +20,19 @@ use Rattle.program.specs.Ports.{valueOf, takes}
 use Rattle.rules.specs.Fields.{inRange}
 use Rattle.rules.specs.Shape.{badLength}
 use Rattle.rules.specs.Verdict.{tableRefusals}
-use Rattle.runs.specs.Tick.{leftOf, run, after}
+use Rattle.runs.specs.Tick.{leftOf, work, after}
 use Rattle.code.specs.Op.{Op, call, schedule, branch, jump, future, return, faulty}
 use Rattle.code.specs.Compile.{longRefusal}
 use Rattle.machine.specs.declared.State.{State}
 use Rattle.machine.specs.declared.At.{At}
 use Rattle.machine.specs.Change.{withPorts, withLeft}
-use Rattle.machine.specs.Instruction.{Call, driverCall, outputCall, sensorCall, callOf, NamesNothing, isFaulty, Faulty, timeBad, stillRunning, called, executes}
+use Rattle.machine.specs.Instruction.{Call, driverCall, outputCall, sensorCall, callOf, NamesNothing, isFaulty, Faulty, timeBad}
+use Rattle.machine.specs.Instruction.{stillRunning, called, executes}
 use Rattle.machine.specs.Instant as instant
 use Rattle.machine.specs.Instant.{Outcome, ok, stop, isReturn, refusalAt, Goes}
 use Rattle.machine.specs.Schedules.{Who, nobody, one, several, running, afterTick, ticked, tickAll}
 use Rattle.machine.specs.Advance.{Lent, Advance, advanceShapeBad, runRefusals, advanceVerdict, advanceAnswer, ready, answer}
-use Rattle.machine.specs.Comes.{program, code, begin, standing, FaultyAt}
+use Rattle.machine.specs.Comes.{program, code, instantStart, standing, FaultyAt}
 use Rattle.machine.specs.Uses.{Meets, Reads, Releases, lending, SameLengths, Agrees}
 use Rattle.machine.proofs.Instructions.{faulty-says}
 use Rattle.machine.proofs.Instants.{passes, at-return, at-refusal}
@@ -40,7 +41,7 @@ use Rattle.machine.proofs.Stopped.{before-tick}
 use Rattle.machine.proofs.Answered.{outcome, advance-refused, advance-steps}
 
 module _ (P : Program) (code : List Op) (readings others times times₂ : List ℤ) where
-  -- what the instruction uses is the same
+  -- what a call, and what an instruction uses is the same
   abbrev SameCall : Call → Type 0
   SameCall (driverCall d) = Unit {0}
   SameCall (outputCall t) = Unit {0}
@@ -55,7 +56,7 @@ module _ (P : Program) (code : List Op) (readings others times times₂ : List �
   Same return = Unit {0}
   Same faulty = Unit {0}
 
-  -- so it does the same
+  -- a call, and an instruction, that uses the same does the same
   same-called : (s : State) (c : Call) → SameCall c → called P readings times s c ≡ called P others times₂ s c
   same-called s (driverCall d) e = refl
   same-called s (outputCall t) e = refl
@@ -72,7 +73,7 @@ module _ (P : Program) (code : List Op) (readings others times times₂ : List �
   same-executes return a e = refl
   same-executes faulty a e = refl
 
-  -- and is lent a bad time in the same case
+  -- an instruction that uses the same is lent a bad time in the same case
   same-time : (o : Op) → Same o → timeBad P times o ≡ timeBad P times₂ o
   same-time (call c) e = refl
   same-time (schedule t) e = ap (λ (k : ℕ). not (inRange k (task P t .worst))) e
@@ -84,9 +85,9 @@ module _ (P : Program) (code : List Op) (readings others times times₂ : List �
 
   -- at most `count` instructions from a come to the same
   abbrev Alike : ℕ → At → Type 0
-  Alike count a = instant.run P readings times code count a ≡ instant.run P others times₂ code count a
+  Alike count a = instant.runFrom P readings times code count a ≡ instant.runFrom P others times₂ code count a
 
-  -- they do, if what each instruction that they come to uses is the same
+  -- instructions from a come to the same, if what each that they come to uses is the same
   same-run : (count : ℕ) (a : At)
       → ((n : ℕ) (b : At) → n < count → Goes P readings times code n a b
       → (Faulty P (length code) (b .planned) (getD code (b .address) faulty) → ⊥) → Same (getD code (b .address) faulty))
@@ -102,7 +103,7 @@ module _ (P : Program) (code : List Op) (readings others times times₂ : List �
       next : At
       next = executes P readings times o a
 
-      -- its refusal, where this is said of 19 and of 16
+      -- the refusal of the instruction, where f says that it is faulty and t that its time is bad
       refusal : Bool → Bool → ℕ
       refusal f t = orElse f faultyRefused (orElse t timeRefused (orElse (stillRunning (a .state) o) overrunRefused acceptedNumber))
 
@@ -110,7 +111,7 @@ module _ (P : Program) (code : List Op) (readings others times times₂ : List �
       faulted : isFaulty P (length code) (a .planned) o ≡ true → (ts : List ℤ) → refusalAt P readings ts code a ≡ faultyRefused
       faulted e ts = ap (λ (f : Bool). refusal f (timeBad P ts o)) e
 
-      -- a refusal, a `return`, or one instruction more
+      -- the run is the same after a refusal, a `return`, or one instruction more
       going : Same o → refusalAt P readings times code a ≡ refusalAt P others times₂ code a
           → (refusalAt P readings times code a ≡ acceptedNumber → isReturn o ≡ false → Alike count next)
           → (r : ℕ) → refusalAt P readings times code a ≡ r → (b : Bool) → isReturn o ≡ b → Alike (suc count) a
@@ -122,7 +123,7 @@ module _ (P : Program) (code : List Op) (readings others times times₂ : List �
       going e w ih zero p false q =
           passes P readings times code count a p q
           ∙ ih p q
-          ∙ ap (instant.run P others times₂ code count) (same-executes o a e)
+          ∙ ap (instant.runFrom P others times₂ code count) (same-executes o a e)
           ∙ sym (passes P others times₂ code count a (sym w ∙ p) q)
 
       go : (f : Bool) → isFaulty P (length code) (a .planned) o ≡ f
@@ -135,7 +136,7 @@ module _ (P : Program) (code : List Op) (readings others times times₂ : List �
           let u = h 0 a (omega arith) refl (faulty-says P (length code) (a .planned) o .no e) in
           going u (ap (refusal (isFaulty P (length code) (a .planned) o)) (same-time o u)) ih (refusalAt P readings times code a) refl (isReturn o) refl
 
--- the tick of the schedules from u: the same, if so are the results of the task that completes in it
+-- the tick of the schedules from u is the same, if so are the results of the task that completes in it
 same-tick : (P : Program) (S results others : List ℤ) (u : State)
     → ((t p : ℕ) → running S u ≡ one t → leftOf (u .left) t ≡ 1 → member p (task P t .outputs) ≡ true → valueOf results p ≡ valueOf others p)
     → tickAll P S results u ≡ tickAll P S others u
@@ -154,7 +155,7 @@ same-tick P S results others u h = go (running S u) refl
     go : (w : Who) → running S u ≡ w → ticked P S results u w ≡ ticked P S others u w
     go nobody e = refl
     go (one t) e =
-        ap (λ (v : List ℤ). ok (afterTick S u (after (run t) (u .left)) v)) (outputs t e (eqb (leftOf (u .left) t) 1) refl)
+        ap (λ (v : List ℤ). ok (afterTick S u (after (work t) (u .left)) v)) (outputs t e (eqb (leftOf (u .left) t) 1) refl)
     go several e = refl
 
 -- where the lengths are the same, so are the numbers that are given before anything runs
@@ -169,14 +170,14 @@ module _ (L : Advance) (X : Lent) (l : SameLengths L X) where
       ap (λ (b : Bool). orElse b shapeRefused (verdict (map (within (λ (K : Advance). K .tables)) (tableRefusals ++ (longRefusal ∷ [])) ++ runRefusals) L))
       same-shape
 
-  -- and the answer, where one of them applies
+  -- where a number is given before anything runs, the answer is the same
   pub refused-same : acceptedNumber < advanceVerdict L → advanceAnswer L ≡ advanceAnswer (lending L X)
   refused-same h = sym (advance-refused L (advanceVerdict L) refl h) ∙ advance-refused (lending L X) (advanceVerdict L) same-verdict h
 
 module _ (L : Advance) (X : Lent) (A : Agrees L X) where
-  -- an instruction that the instant comes to uses the same
+  -- an instruction that the instant comes to uses the same of both
   same-reached : L .state .remaining ≡ 0 → (n : ℕ) (b : At) → n < length (code L)
-      → Goes (program L) (L .lent .readings) (L .lent .times) (code L) n (begin L) b
+      → Goes (program L) (L .lent .readings) (L .lent .times) (code L) n (instantStart L) b
       → (FaultyAt L b → ⊥)
       → Same (program L) (code L) (L .lent .readings) (X .readings) (L .lent .times) (X .times) (standing L b)
   same-reached z n b l g f =
@@ -197,7 +198,7 @@ module _ (L : Advance) (X : Lent) (A : Agrees L X) where
       go return r = tt
       go faulty r = tt
 
-  -- the E part of the step
+  -- the E part of the step comes to the same
   same-ready :
       ready (program L) (code L) (L .lent .readings) (L .lent .times) (L .state) ≡ ready (program L) (code L) (X .readings) (X .times) (L .state)
   same-ready = go (L .state .remaining) refl
@@ -207,11 +208,11 @@ module _ (L : Advance) (X : Lent) (A : Agrees L X) where
           (elim n [ zero ↦ instant.runInstant (program L) (L .lent .readings) (L .lent .times) (code L) (L .state) | suc k ↦ ok (L .state) ])
           (elim n [ zero ↦ instant.runInstant (program L) (X .readings) (X .times) (code L) (L .state) | suc k ↦ ok (L .state) ])
       go zero z =
-          same-run (program L) (code L) (L .lent .readings) (X .readings) (L .lent .times) (X .times) (length (code L)) (begin L)
+          same-run (program L) (code L) (L .lent .readings) (X .readings) (L .lent .times) (X .times) (length (code L)) (instantStart L)
           (λ n b l g f. same-reached z n b l g f)
       go (suc n) z = refl
 
-  -- the whole step
+  -- the whole step comes to the same
   same-step : outcome L ≡ outcome (lending L X)
   same-step =
       go (ready (program L) (code L) (L .lent .readings) (L .lent .times) (L .state)) refl
@@ -232,7 +233,7 @@ module _ (L : Advance) (X : Lent) (A : Agrees L X) where
           }) m)
       go (stop n) e = refl
 
-  -- the answer is the same
+  -- the answer of an advance is the same
   pub used-only : advanceAnswer L ≡ advanceAnswer (lending L X)
   used-only = go (advanceVerdict L) refl
     where
@@ -256,10 +257,10 @@ module _ (L : Advance) where
       go true m = refl
       go false m = absurd (faulty-then L (call c) r (subst (NamesNothing (program L)) (sym e) m))
 
-  -- and releases only declared tasks
+  -- E code releases only declared tasks
   pub releases-declared : (t : ℕ) → Releases L t → t < length (program L .tasks)
   releases-declared t r = omega (arith, faulty-then L (schedule t) r)
 
-  -- while a tick of the unit remains it does neither
+  -- while a tick of the unit remains the E code comes to no instruction
   pub meets-none : 1 ≤ L .state .remaining → (o : Op) → Meets L o → ⊥
   meets-none l o r = omega (arith, r .reaches .no-tick-left)

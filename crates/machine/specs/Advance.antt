@@ -1,5 +1,5 @@
 -- The two calls of the machine: a fresh state, and an advance of one tick. "A refusal returns its number, and the state is as
--- before". Assumes nothing.
+-- before".
 use Prim.Native.Nat.{ℕ, zero, suc, _/_, _≤_, _<_}
 use mathlib.Core.Path.{_≡_}
 use mathlib.Core.Bool.{Bool, _||_}
@@ -18,7 +18,7 @@ use Rattle.rules.specs.Verdict.{programVerdict}
 use Rattle.runs.specs.Tick.{leftOf}
 use Rattle.runs.specs.Schedule.{scheduleWidth, scheduleCount}
 use Rattle.code.specs.Op.{Op, instructions}
-use Rattle.code.specs.Compile.{lentRefusals, lentRules}
+use Rattle.code.specs.Compile.{callRefusals, callRules}
 use Rattle.suppliers.specs.Schedule.{joinedBad, Joined}
 use Rattle.machine.specs.declared.State.{State}
 use Rattle.machine.specs.declared.Advanced.{Advanced}
@@ -51,7 +51,7 @@ pub record Lent : Type 0 where
   pub results : List ℤ
   pub times : List ℤ
 
--- what an advance is lent
+-- what an advance is lent: tables, E code, joined schedule, state, and what is lent to its tick
 pub record Advance : Type 0 where
   pub tables : Tables
   pub code : List ℕ
@@ -96,7 +96,7 @@ pub record StateFits (L : Advance) : Type 0 where
   pub left : (t : ℕ) → t < maxTasks → leftOf (L .state .left) t ≤ maxLeft
   pub positions : (j : ℕ) → j < suppliers → getD (L .state .positions) j 0 ≤ scheduleCount (L .schedule)
 
--- the static verdict: 1 to 11, 13, 21
+-- the static verdict of an advance: numbers 1 to 11, 13 and 21
 abbrev pub runRefusals : List (Refusal Advance)
 runRefusals =
     record { number = scheduleRefused; applies = λ L. joinedBad (L .tables) (L .schedule) }
@@ -104,7 +104,7 @@ runRefusals =
     ∷ []
 
 abbrev pub advanceRefusals : List (Refusal Advance)
-advanceRefusals = lentRefusals (λ L. L .tables) advanceShapeBad runRefusals
+advanceRefusals = callRefusals (λ L. L .tables) advanceShapeBad runRefusals
 
 unfoldable pub advanceVerdict : Advance → ℕ
 advanceVerdict L = verdict advanceRefusals L
@@ -116,9 +116,9 @@ runRules =
     ∷ []
 
 abbrev pub advanceRules : List (Rule Advance)
-advanceRules = lentRules (λ L. L .tables) AdvanceShaped runRules
+advanceRules = callRules (λ L. L .tables) AdvanceShaped runRules
 
--- the step: E code if no tick of the unit remains, then one tick of the schedules
+-- the step of an advance: E code if no tick of the unit remains, then one tick of the schedules
 abbrev pub ready : Program → List Op → List ℤ → List ℤ → State → Outcome
 ready P code readings times s = elim (s .remaining) [ zero ↦ runInstant P readings times code s | suc n ↦ ok s ]
 

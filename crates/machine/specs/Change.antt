@@ -1,5 +1,4 @@
 -- The state with one of its fields changed.
--- Assumes nothing.
 use Prim.Native.Nat.{ℕ}
 use mathlib.Core.List.{List}
 use lib.IntN.{ℤ}

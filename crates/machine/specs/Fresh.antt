@@ -1,5 +1,4 @@
 -- What a fresh state holds, as claims: "the ports' first values in the first two and 0 elsewhere"; "refused, it is all 0".
--- Assumes nothing.
 use Prim.Native.Nat.{ℕ, _≤_, _<_}
 use mathlib.Core.Path.{_≡_}
 use mathlib.Core.List.{List}
@@ -10,7 +9,7 @@ use Rattle.program.specs.Tables.{Tables, portCount, portFirst}
 use Rattle.program.specs.Ports.{valueOf}
 use Rattle.machine.specs.declared.State.{State}
 
--- all is 0 but port values and local outputs
+-- all of a state is 0 but port values and local outputs
 pub record RestZero (s : State) : Type 0 where
   pub time : s .time ≡ 0
   pub pending : s .pending ≡ 0
@@ -20,19 +19,19 @@ pub record RestZero (s : State) : Type 0 where
   pub left : s .left ≡ replicate maxTasks 0
   pub positions : s .positions ≡ replicate suppliers 0
 
--- by port the first value that the table gives, and 0 where no port is declared
+-- values by port are the first values that the table gives, and 0 where no port is declared
 pub record FirstValues (T : Tables) (v : List ℤ) : Type 0 where
   pub all : length v ≡ maxPorts
   pub declared : (p : ℕ) → p < portCount T → valueOf v p ≡ portFirst T p
   pub undeclared : (p : ℕ) → portCount T ≤ p → valueOf v p ≡ pos 0
 
--- of an accepted program
+-- the fresh state of an accepted program has the first values, and 0 elsewhere
 pub record Fresh (T : Tables) (s : State) : Type 0 where
   pub ports : FirstValues T (s .ports)
   pub outputs : FirstValues T (s .outputs)
   pub rest : RestZero s
 
--- of a refused one
+-- the state that is handed back for a refused program is all 0
 pub record AllZero (s : State) : Type 0 where
   pub ports : s .ports ≡ replicate maxPorts (pos 0)
   pub outputs : s .outputs ≡ replicate maxPorts (pos 0)

@@ -1,5 +1,5 @@
 -- One instant of the E machine: from the pending address to `return`, with its count of instructions.
--- "One instant runs more instructions than the E code has" is 20; "running off the end is 19, never 20". Assumes nothing.
+-- "One instant runs more instructions than the E code has" is 20; "running off the end is 19, never 20".
 use Prim.Native.Nat.{ℕ, zero, suc, _≤_, _<_}
 use mathlib.Core.Path.{_≡_}
 use mathlib.Core.Bool.{Bool, true, false}
@@ -30,24 +30,24 @@ isReturn (future d a) = false
 isReturn return = true
 isReturn faulty = false
 
--- all of n instructions were run: the next address says whether one more is
+-- what an instant comes to once it ran all of n instructions: 20 at an address inside the code, else 19
 abbrev pub ended : ℕ → ℕ → Outcome
 ended n address = elim (ltb address n) [ true ↦ stop countRefused | false ↦ stop faultyRefused ]
 
 module _ (P : Program) (readings times : List ℤ) (code : List Op) where
-  -- the instruction at an address; past the end stands none
+  -- the instruction at the machine's address; past the end stands none
   abbrev pub fetch : At → Op
   fetch a = getD code (a .address) faulty
 
-  -- 19, 16, 17, or 0
+  -- the number that the instruction at the machine's address is refused with: 19, 16, 17, or 0
   abbrev pub refusalAt : At → ℕ
   refusalAt a = verdict (instructionRefusals P readings times (length code) (fetch a)) a
 
-  -- at most `count` instructions more
-  abbrev pub run : ℕ → At → Outcome
-  run zero a = ended (length code) (a .address)
-  run (suc count) a = elim (refusalAt a) [
-    | zero ↦ elim (isReturn (fetch a)) [ true ↦ ok (a .state) | false ↦ run count (executes P readings times (fetch a) a) ]
+  -- what the machine comes to from a, in at most `count` instructions
+  abbrev pub runFrom : ℕ → At → Outcome
+  runFrom zero a = ended (length code) (a .address)
+  runFrom (suc count) a = elim (refusalAt a) [
+    | zero ↦ elim (isReturn (fetch a)) [ true ↦ ok (a .state) | false ↦ runFrom count (executes P readings times (fetch a) a) ]
     | suc n ↦ stop (suc n)
   ]
 
@@ -55,9 +55,9 @@ module _ (P : Program) (readings times : List ℤ) (code : List Op) where
   startAt s = record { address = s .pending; planned = false; state = s }
 
   abbrev pub runInstant : State → Outcome
-  runInstant s = run (length code) (startAt s)
+  runInstant s = runFrom (length code) (startAt s)
 
-  -- The same over the tests (in document 01's words: Comes.antt): n instructions, none refused and none a `return`, lead from a to b
+  -- n instructions, none refused and none a `return` by the tests, lead from a to b (in document 01's words: Comes.antt)
   abbrev pub Goes : ℕ → At → At → Type 0
   Goes zero a b = a ≡ b
   Goes (suc n) a b = (refusalAt a ≡ acceptedNumber) × (isReturn (fetch a) ≡ false) × Goes n (executes P readings times (fetch a) a) b
@@ -72,7 +72,7 @@ module _ (P : Program) (readings times : List ℤ) (code : List Op) where
     pub returns : isReturn (fetch last) ≡ true
     pub leaves : last .state ≡ s
 
-  -- the last one is refused, with 19, 16 or 17
+  -- from a, in at most `count` instructions: the last one is refused, with 19, 16 or 17
   pub record RefusedAt (count : ℕ) (a : At) (number : ℕ) : Type 0 where
     pub before : ℕ
     pub last : At
@@ -81,7 +81,7 @@ module _ (P : Program) (readings times : List ℤ) (code : List Op) where
     pub some-number : acceptedNumber < number
     pub refused : refusalAt last ≡ number
 
-  -- all were run: one more inside the code is 20, running off the end 19
+  -- from a, all of `count` instructions were run: one more inside the code is 20, running off the end 19
   pub record Spent (count : ℕ) (a : At) (number : ℕ) : Type 0 where
     pub last : At
     pub goes : Goes count a last

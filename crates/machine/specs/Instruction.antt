@@ -1,5 +1,5 @@
 -- One instruction of E code: when it is faulty (19), lent a bad time (16), or ends or releases a task that is still running
--- (17), in that order; and what it does otherwise. Each condition as a test and as a claim. Assumes nothing.
+-- (17), in that order; and what it does otherwise. Each condition as a test and as a claim.
 use Prim.Native.Nat.{ℕ, suc, _-_, _≤_}
 use mathlib.Core.Path.{_≡_}
 use mathlib.Core.Bool.{Bool, true, false, not, _||_}
@@ -36,7 +36,7 @@ callOf n = elim (ltb n firstOutputCall) [
 ]
 
 module _ (P : Program) where
-  -- it names nothing: no declared driver, no declared task, no declared sensor
+  -- a call names nothing: no declared driver, no declared task, no declared sensor
   abbrev pub namesNothing : Call → Bool
   namesNothing (driverCall d) = leb (length (P .drivers)) d
   namesNothing (outputCall t) = leb (length (P .tasks)) t
@@ -87,7 +87,7 @@ module _ (P : Program) where
   TimeBad times return = ⊥
   TimeBad times faulty = ⊥
 
--- 17: the task that it ends or releases is still running
+-- 17: the task that a call or an instruction ends or releases is still running
 abbrev pub stillCalled : State → Call → Bool
 stillCalled s (driverCall d) = false
 stillCalled s (outputCall t) = leb 1 (leftOf (s .left) t)
@@ -118,7 +118,7 @@ StillRunning s faulty = ⊥
 
 -- "readings are used only when E code reads, times only at `schedule`"
 module _ (P : Program) (readings times : List ℤ) where
-  -- "at one instruction the order is 20, 19, 16, 17": the last three (20 counts instructions, in Instant.antt)
+  -- the refusals of one instruction, "the order is 20, 19, 16, 17": the last three (20 counts instructions, in Instant.antt)
   abbrev pub instructionRefusals : ℕ → Op → List (Refusal At)
   instructionRefusals n o =
       record { number = faultyRefused; applies = λ a. isFaulty P n (a .planned) o }

@@ -1,5 +1,4 @@
 -- What an accepted advance may change, and nothing else, as claims about the states before and after.
--- Assumes nothing.
 use Prim.Native.Nat.{ℕ, _+_, _-_, _%_, _^_, _≤_, _<_}
 use mathlib.Core.Path.{_≡_}
 use mathlib.Core.Bool.{true, false}
@@ -19,13 +18,13 @@ use Rattle.machine.specs.declared.State.{State}
 use Rattle.machine.specs.Schedules.{Who, nobody, one, several, running}
 use Rattle.machine.specs.Advance.{Advance}
 
--- E code writes no such port: it is no sensor, no driver's destination and no task's output
+-- E code does not write port p: it is no sensor, no driver's destination and no task's output
 pub record Untouched (P : Program) (p : ℕ) : Type 0 where
   pub no-sensor : member p (P .sensors) ≡ false
   pub no-destination : (d : ℕ) → member p (map (λ c. c .destination) (driver P d .copies)) ≡ false
   pub no-output : (t : ℕ) → member p (task P t .outputs) ≡ false
 
--- a task's remaining time is as it was; or it had ended, and is released with the time lent for it
+-- the remaining time of task t is as it was; or the task had ended, and is released with the time lent for it
 abbrev pub Released : Program → List ℤ → ℕ → ℕ → ℕ → Type 0
 Released P times t before after =
     (after ≡ before) ⊎ ((before ≡ 0) × (after ≡ numAt times t) × InRange (numAt times t) (task P t .worst))
@@ -39,7 +38,7 @@ pub record Begins (code : List Op) (u : State) : Type 0 where
   pub elapsed : u .elapsed ≡ 0
   pub positions : u .positions ≡ replicate suppliers 0
 
--- an instant of E code leads from s to u
+-- an instant of E code that leads from s to u changes only what this says
 pub record InstantKeeps (P : Program) (times : List ℤ) (code : List Op) (s u : State) : Type 0 where
   pub time : u .time ≡ s .time
   pub outputs : u .outputs ≡ s .outputs
@@ -47,24 +46,24 @@ pub record InstantKeeps (P : Program) (times : List ℤ) (code : List Op) (s u :
   pub left : (t : ℕ) → Released P times t (leftOf (s .left) t) (leftOf (u .left) t)
   pub begins : Begins code u
 
--- a tick of task t leads from s to u
+-- a tick of task t that leads from s to u changes only what this says of remaining times and local outputs
 pub record Worked (P : Program) (results : List ℤ) (t : ℕ) (s u : State) : Type 0 where
-  -- it is a tick nearer its end, and no other task is
+  -- task t is a tick nearer its end, and no other task is
   pub nearer : leftOf (u .left) t ≡ leftOf (s .left) t - 1
   pub others : (j : ℕ) → (j ≡ t → ⊥) → leftOf (u .left) j ≡ leftOf (s .left) j
-  -- completing, its local outputs take its results; no other local output changes, and without completing none does
+  -- where task t completes, its local outputs take its results; no other local output changes, and else none does
   pub completes : leftOf (s .left) t ≡ 1 → (p : ℕ) → p < length (s .outputs) → member p (task P t .outputs) ≡ true
       → valueOf (u .outputs) p ≡ valueOf results p
   pub stays : (p : ℕ) → (member p (task P t .outputs) ≡ false) ⊎ (leftOf (s .left) t ≡ 1 → ⊥)
       → valueOf (u .outputs) p ≡ valueOf (s .outputs) p
 
--- a tick in which these run
+-- a tick in which nobody, one task or several run, from s to u
 abbrev pub Works : Program → List ℤ → Who → State → State → Type 0
 Works P results nobody s u = (u .left ≡ s .left) × (u .outputs ≡ s .outputs)
 Works P results (one t) s u = Worked P results t s u
 Works P results several s u = ⊥
 
--- a tick of the schedules leads from s to u
+-- a tick of the schedules that leads from s to u changes only what this says
 pub record Passes (P : Program) (S results : List ℤ) (s u : State) : Type 0 where
   pub time : u .time ≡ (s .time + 1) % 2 ^ 32
   pub ports : u .ports ≡ s .ports

@@ -1,5 +1,5 @@
 -- One tick of all suppliers' schedules: who runs, 18 where two do, and the state after the tick.
--- "A completing task puts its entries of the lent results into its local outputs". Assumes nothing.
+-- "A completing task puts its entries of the lent results into its local outputs".
 use Prim.Native.Nat.{ℕ, zero, suc, _+_, _-_, _%_, _^_, _<_}
 use mathlib.Core.Path.{_≡_}
 use mathlib.Core.Bool.{Bool, true, false}
@@ -12,7 +12,7 @@ use Rattle.cells.specs.Limits.{suppliers}
 use Rattle.cells.specs.Refusals.{collisionRefused}
 use Rattle.program.specs.Program.{Program, task}
 use Rattle.program.specs.Ports.{valueOf, takes}
-use Rattle.runs.specs.Tick.{leftOf, Act, rest, run, after, Place, moved, doing, runsIn}
+use Rattle.runs.specs.Tick.{leftOf, Act, rest, work, after, Place, moved, doing, runsIn}
 use Rattle.runs.specs.Schedule.{blockOf}
 use Rattle.machine.specs.declared.State.{State}
 use Rattle.machine.specs.declared.Running.{Running}
@@ -27,13 +27,13 @@ pub data Who : Type 0 where
 
 abbrev pub join : Who → Act → Who
 join nobody rest = nobody
-join nobody (run t) = one t
+join nobody (work t) = one t
 join (one t) rest = one t
-join (one t) (run u) = several
+join (one t) (work u) = several
 join several rest = several
-join several (run t) = several
+join several (work t) = several
 
--- of the suppliers below n
+-- who runs, of the suppliers below n
 abbrev pub whoRuns : (ℕ → Act) → ℕ → Who
 whoRuns acts zero = nobody
 whoRuns acts (suc n) = join (whoRuns acts n) (acts n)
@@ -65,7 +65,7 @@ module _ (S : List ℤ) (s : State) where
     pub one-runs : runsNow one-supplier ≡ true
     pub other-runs : runsNow other-supplier ≡ true
 
--- the same as the code hands it on: how many run, two standing for more, and the task if one does
+-- who runs, as the code hands it on: how many do, two standing for more, and the task if one does
 abbrev pub told : Who → Running
 told nobody = record { count = 0; job = record { 0 = 0 } }
 told (one t) = record { count = 1; job = record { 0 = t } }
@@ -74,7 +74,7 @@ told several = record { count = 2; job = record { 0 = 0 } }
 abbrev pub sharesOf : List ℤ → State → Shares
 sharesOf S s = record { running = told (running S s); positions = each (movedOf S s) suppliers 0 }
 
--- the local outputs after a tick of task t, which has these output ports: its results where it completes
+-- the local outputs after a tick of task t, which has these output ports and puts its results there where it completes
 abbrev pub outputsAt : List ℕ → List ℤ → State → ℕ → List ℤ
 outputsAt ports results s t = elim (eqb (leftOf (s .left) t) 1) [
   | true ↦ puts (takes (valueOf results) ports) (s .outputs)
@@ -84,7 +84,7 @@ outputsAt ports results s t = elim (eqb (leftOf (s .left) t) 1) [
 abbrev pub outputsAfter : Program → List ℤ → State → ℕ → List ℤ
 outputsAfter P results s t = outputsAt (task P t .outputs) results s t
 
--- the tick has passed: "after 4294967295 comes 0"
+-- the state after a tick that leaves these remaining times, outputs and positions: "after 4294967295 comes 0"
 abbrev pub tickPassed : State → List ℕ → List ℤ → List ℕ → State
 tickPassed s left outputs positions = record {
   ports = s .ports;
@@ -103,7 +103,7 @@ afterTick S s left outputs = tickPassed s left outputs (each (movedOf S s) suppl
 
 abbrev pub ticked : Program → List ℤ → List ℤ → State → Who → Outcome
 ticked P S results s nobody = ok (afterTick S s (s .left) (s .outputs))
-ticked P S results s (one t) = ok (afterTick S s (after (run t) (s .left)) (outputsAfter P results s t))
+ticked P S results s (one t) = ok (afterTick S s (after (work t) (s .left)) (outputsAfter P results s t))
 ticked P S results s several = stop collisionRefused
 
 abbrev pub tickAll : Program → List ℤ → List ℤ → State → Outcome

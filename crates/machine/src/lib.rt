@@ -2,8 +2,8 @@
 use cells::kinds::Task;
 use cells::limits::Program;
 
-// Port values, local outputs, time stamp, pending address, current `future` address, elapsed and remaining ticks of the
-// unit, remaining time per task, position per supplier (rows of its block passed).
+// The state of the machine: port values, local outputs, time stamp, pending address, current `future` address, elapsed and
+// remaining ticks of the unit, remaining time by task, position by supplier (rows of its block passed).
 pub struct State {
     pub ports: [i32; Program::PORTS],
     pub outputs: [i32; Program::PORTS],
@@ -16,20 +16,20 @@ pub struct State {
     pub positions: [usize; Program::SUPPLIERS],
 }
 
-// The number, and the state handed back: as before on a refusal.
+// What a call on the machine answers: a number, and the state handed back, which is as before on a refusal.
 pub struct Advanced {
     pub number: usize,
     pub state: State,
 }
 
-// Within an instant: the next address, whether a `future` was executed, the state so far.
+// The machine within an instant: the next address, whether a `future` was executed, the state so far.
 pub struct At {
     pub address: usize,
     pub planned: bool,
     pub state: State,
 }
 
-// How many suppliers run in a tick, two standing for more, and the task if one does.
+// Who runs in a tick: how many suppliers do, two standing for more, and the task if one does.
 pub struct Running {
     pub count: usize,
     pub job: Task,

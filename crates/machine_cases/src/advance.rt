@@ -5,21 +5,21 @@ use crate::systems;
 use crate::systems::System;
 use cases::numbers;
 use cases::numbers::Amount;
-use cases::out::Answer;
+use cases::out::Outcome;
 use cases::room;
 use cases::stream::Reader;
 use cases::tables::Lengths;
 use cells::parts::part;
 use machine::State;
 
-// After a tick: whether its line was written, and the state handed back.
+// What became of a tick: whether its line was written, and the state handed back.
 struct Ticked {
     reader: Reader,
     written: bool,
     state: State,
 }
 
-// One tick: what is lent to it is read, and its line written. A refused reader has none.
+// Steps one tick: what is lent to it is read, and its line written. A refused reader has no tick.
 fn tick(
     r: Reader,
     buffer: &mut [u8],
@@ -32,7 +32,7 @@ fn tick(
     let mut readings = [0i32; room::BY_PORT];
     let mut results = [0i32; room::BY_PORT];
     let mut times = [0i32; room::BY_TASK];
-    let x = systems::read_lent(r, buffer, &mut readings, &mut results, &mut times);
+    let x = systems::read_slices(r, buffer, &mut readings, &mut results, &mut times);
     let reader = x.reader;
     if !reader.ok {
         return Ticked {
@@ -51,7 +51,7 @@ fn tick(
     }
 }
 
-// So many ticks, one after the other.
+// Steps so many ticks, one after the other, up to the first whose line could not be written.
 fn ticks(
     r: Reader,
     buffer: &mut [u8],
@@ -80,7 +80,7 @@ fn ticks(
     at
 }
 
-// How many ticks: one, or as many as the case says.
+// How many ticks a case has: one, or as many as it says.
 fn count(r: Reader, buffer: &mut [u8], many: bool) -> Amount {
     if many {
         return numbers::count(r, buffer);
@@ -91,7 +91,7 @@ fn count(r: Reader, buffer: &mut [u8], many: bool) -> Amount {
     }
 }
 
-// The ticks of a system that was read.
+// Steps the ticks of a system that was read.
 fn run(
     system: System,
     buffer: &mut [u8],
@@ -115,14 +115,15 @@ fn run(
     )
 }
 
-pub fn case(r: Reader, buffer: &mut [u8], many: bool) -> Answer {
+// Answers a case of the kind `run`, of `many` ticks, or of the kind `advance`, of one.
+pub fn case(r: Reader, buffer: &mut [u8], many: bool) -> Outcome {
     let mut room = [0i32; room::ALL];
     let mut code = [0u32; room::CODE];
     let mut rows = [0i32; room::SCHEDULE];
     let system = systems::read_system(r, buffer, &mut room, &mut code, &mut rows);
     let at = run(system, buffer, &room, &code, &rows, many);
     let reader = at.reader;
-    Answer {
+    Outcome {
         reader,
         known: true,
         written: at.written,

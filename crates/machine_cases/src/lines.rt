@@ -3,6 +3,7 @@ use cases::out;
 use machine::Advanced;
 use machine::State;
 
+// Prints values, each after a space.
 fn values(all: &[i32]) -> bool {
     let mut i = 0;
     while i < all.len() {
@@ -14,6 +15,7 @@ fn values(all: &[i32]) -> bool {
     true
 }
 
+// Prints counts, each after a space.
 fn counts(all: &[usize]) -> bool {
     let mut i = 0;
     while i < all.len() {
@@ -25,8 +27,8 @@ fn counts(all: &[usize]) -> bool {
     true
 }
 
-// Time stamp, the two addresses, elapsed and remaining ticks.
-fn ticks(s: State) -> bool {
+// Prints the moment of a state: time stamp, the two addresses, elapsed and remaining ticks.
+fn moment(s: State) -> bool {
     if !out::after_space(s.time as usize) {
         return false;
     }
@@ -42,6 +44,7 @@ fn ticks(s: State) -> bool {
     out::after_space(s.remaining)
 }
 
+// Prints a number and the state handed back with it, on a line.
 pub fn line(a: Advanced) -> bool {
     let state = a.state;
     let ports = state.ports;
@@ -57,7 +60,7 @@ pub fn line(a: Advanced) -> bool {
     if !values(&outputs) {
         return false;
     }
-    if !ticks(state) {
+    if !moment(state) {
         return false;
     }
     if !counts(&left) {

@@ -2,10 +2,10 @@
 // at the first refusal, a line.
 use crate::lines;
 use crate::systems;
-use crate::systems::Lent;
 use crate::systems::System;
+use crate::systems::TickSlices;
 use cases::numbers;
-use cases::out::Answer;
+use cases::out::Outcome;
 use cases::room;
 use cases::stream::Reader;
 use cases::tables::Lengths;
@@ -14,7 +14,7 @@ use cells::refusals;
 use machine::Advanced;
 use machine::State;
 
-// So many ticks, up to the first that is refused.
+// Steps so many ticks of a system that was read, all lent the same, up to the first that is refused.
 fn ticks(
     n: usize,
     l: Lengths,
@@ -22,7 +22,7 @@ fn ticks(
     code: &[u32],
     rows: &[i32],
     s: State,
-    x: Lent,
+    x: TickSlices,
     readings: &[i32],
     results: &[i32],
     times: &[i32],
@@ -43,12 +43,13 @@ fn ticks(
     at
 }
 
-// How many ticks, and what is lent to each.
+// How many ticks a case has, and what was read for each.
 struct Alike {
     count: usize,
-    lent: Lent,
+    slices: TickSlices,
 }
 
+// Reads how many ticks a case has, and what is lent to each.
 fn read_alike(
     r: Reader,
     buffer: &mut [u8],
@@ -57,19 +58,20 @@ fn read_alike(
     times: &mut [i32],
 ) -> Alike {
     let amount = numbers::count(r, buffer);
-    let lent = systems::read_lent(amount.reader, buffer, readings, results, times);
+    let slices = systems::read_slices(amount.reader, buffer, readings, results, times);
     Alike {
         count: amount.value,
-        lent,
+        slices,
     }
 }
 
-// All that was read of a case.
+// All that was read of a case: its system, and its ticks.
 struct Long {
     system: System,
     alike: Alike,
 }
 
+// Reads a case: its system, then its ticks.
 fn read_case(
     r: Reader,
     buffer: &mut [u8],
@@ -85,7 +87,7 @@ fn read_case(
     Long { system, alike }
 }
 
-// Its line; false where it could not be written. A refused reader has none.
+// Writes the line of a case that was read; false where it could not be written. A refused reader has no line.
 fn judged(
     a: Long,
     room: &[i32],
@@ -96,8 +98,8 @@ fn judged(
     times: &[i32],
 ) -> bool {
     let alike = a.alike;
-    let lent = alike.lent;
-    let reader = lent.reader;
+    let slices = alike.slices;
+    let reader = slices.reader;
     if !reader.ok {
         return true;
     }
@@ -111,14 +113,15 @@ fn judged(
         systems::kept(code, system.code),
         part(rows, 0, system.rows),
         state,
-        lent,
+        slices,
         readings,
         results,
         times,
     ))
 }
 
-pub fn case(r: Reader, buffer: &mut [u8]) -> Answer {
+// Answers a case of the kind `long`.
+pub fn case(r: Reader, buffer: &mut [u8]) -> Outcome {
     let mut room = [0i32; room::ALL];
     let mut code = [0u32; room::CODE];
     let mut rows = [0i32; room::SCHEDULE];
@@ -137,9 +140,9 @@ pub fn case(r: Reader, buffer: &mut [u8]) -> Answer {
     );
     let written = judged(a, &room, &code, &rows, &readings, &results, &times);
     let alike = a.alike;
-    let lent = alike.lent;
-    let reader = lent.reader;
-    Answer {
+    let slices = alike.slices;
+    let reader = slices.reader;
+    Outcome {
         reader,
         known: true,
         written,

@@ -8,7 +8,7 @@ use cells::parts::part;
 use machine::Advanced;
 use machine::State;
 
-// How many words of the code and numbers of the schedule were kept.
+// What was read of a system: program, how many words of its code and numbers of its schedule were kept, and state.
 pub struct System {
     pub program: Lengths,
     pub code: usize,
@@ -17,21 +17,22 @@ pub struct System {
     pub state: State,
 }
 
-// How many numbers of each slice were kept.
-pub struct Lent {
+// What was read for a tick: how many readings, results and times were kept.
+pub struct TickSlices {
     pub reader: Reader,
     pub readings: usize,
     pub results: usize,
     pub times: usize,
 }
 
-// How many words and numbers of code and schedule were kept.
+// What was read of code and schedule: how many words of the one and numbers of the other were kept.
 struct Listed {
     reader: Reader,
     code: usize,
     rows: usize,
 }
 
+// Reads the E code, then the joined schedule.
 fn read_code(r: Reader, buffer: &mut [u8], code: &mut [u32], rows: &mut [i32]) -> Listed {
     let own_code = tables::words(r, buffer, code);
     let own_rows = tables::slice(own_code.reader, buffer, rows);
@@ -43,6 +44,7 @@ fn read_code(r: Reader, buffer: &mut [u8], code: &mut [u32], rows: &mut [i32]) -
     }
 }
 
+// Reads a system: program, E code, joined schedule and state.
 pub fn read_system(
     r: Reader,
     buffer: &mut [u8],
@@ -64,18 +66,19 @@ pub fn read_system(
     }
 }
 
-pub fn read_lent(
+// Reads what is lent to a tick: readings, results and times, each with its length before it.
+pub fn read_slices(
     r: Reader,
     buffer: &mut [u8],
     readings: &mut [i32],
     results: &mut [i32],
     times: &mut [i32],
-) -> Lent {
+) -> TickSlices {
     let own_readings = tables::slice(r, buffer, readings);
     let own_results = tables::slice(own_readings.reader, buffer, results);
     let own_times = tables::slice(own_results.reader, buffer, times);
     let reader = own_times.reader;
-    Lent {
+    TickSlices {
         reader,
         readings: own_readings.len,
         results: own_results.len,
@@ -83,26 +86,26 @@ pub fn read_lent(
     }
 }
 
-// The words that were kept.
+// The first n words of the code, which are those that were kept.
 pub fn kept(code: &[u32], n: usize) -> &[u32] {
     let end = least(n, code.len());
     &code[..end]
 }
 
-// An advance of what was read.
+// The machine's answer on one tick of a system that was read, with what was read for the tick.
 pub fn advanced(
     l: Lengths,
     room: &[i32],
     code: &[u32],
     rows: &[i32],
     s: State,
-    x: Lent,
+    x: TickSlices,
     readings: &[i32],
     results: &[i32],
     times: &[i32],
 ) -> Advanced {
     operation::advance(
-        &tables::lent(l, room),
+        &tables::tables_in(l, room),
         l.program,
         code,
         rows,

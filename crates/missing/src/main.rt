@@ -1,7 +1,7 @@
 // Shows which intervals hold a missing reading: only one that starts at the no-reading value.
-use cells::reading::Reading;
+use readings::Reading;
 
-// One line of the answer. The texts are those of the numbers.
+// Prints on a line whether an interval holds a value; the texts are those of the value and of the interval.
 fn line(value: i32, number: &[u8], low: i32, high: i32, interval: &[u8]) {
     if Reading(value).is_missing() {
         io::write_all(1, b"no reading");
@@ -18,7 +18,7 @@ fn line(value: i32, number: &[u8], low: i32, high: i32, interval: &[u8]) {
     }
 }
 
-// Three readings against one interval: a small one, none, and the largest.
+// Holds three readings against one interval: a small one, none, and the largest.
 fn three(low: i32, high: i32, interval: &[u8]) {
     line(5, b"5", low, high, interval);
     line(Reading::NO_READING, b"-2147483648", low, high, interval);

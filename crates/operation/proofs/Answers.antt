@@ -1,5 +1,5 @@
 -- What a fresh state and the two parts of a step answer. Where the E part of an advance is not refused, the
--- state before the tick is within its limits. Assumes nothing; of that state, that the one handed in is.
+-- state before the tick is within its limits. Assumes of that state that the one handed in is.
 use Prim.Native.Nat.{_≤_, _<_}
 use mathlib.Core.Path.{_≡_, refl, sym, ap, subst, _∙_}
 use mathlib.Core.List.{List}
@@ -22,7 +22,7 @@ use Rattle.machine.proofs.Refusals.{ready-number}
 use Rattle.machine.proofs.Kept.{instant-keeps}
 
 module _ (P : Program) (code : List Op) (readings times : List ℤ) (s : State) where
-  -- the answer 0 tells the state before the tick
+  -- an answer 0 of the E part tells the state before the tick
   pub ready-told : (b : Advanced) → b ≡ answer s (ready P code readings times s) → b .number ≡ acceptedNumber → ready P code readings times s ≡ ok (b .state)
   ready-told b e z = go (ready P code readings times s) refl e
     where
@@ -30,7 +30,7 @@ module _ (P : Program) (code : List Op) (readings times : List ℤ) (s : State) 
       go (ok u) f g = f ∙ ap ok (sym (ap (λ (a : Advanced). a .state) g))
       go (stop n) f g = absurd (omega (arith, ready-number P code readings times s n f, z, ap (λ (a : Advanced). a .number) g))
 
-  -- which is within its limits, as the one handed in is
+  -- the state before the tick is within its limits, as the one handed in is
   pub ready-small : (u : State) → s .current < length code → s .elapsed ≤ maxElapsed → ready P code readings times s ≡ ok u
       → (u .current < length code) × (u .elapsed ≤ maxElapsed)
   ready-small u c l e = go (ready-leaves P code readings times s u .0 e)
@@ -41,7 +41,7 @@ module _ (P : Program) (code : List Op) (readings times : List ℤ) (s : State) 
       go (inr w) = let b = instant-keeps P readings times code s u (w .1) .begins in (b .here, omega (arith, b .elapsed))
 
 module _ (P : Program) (code : List Op) (S : List ℤ) (X : Lent) (s : State) where
-  -- the E part is refused: so is the step
+  -- where the E part is refused, so is the step
   pub step-stops : (b : Advanced) → b ≡ answer s (ready P code (X .readings) (X .times) s) → acceptedNumber < b .number
       → record { number = b .number; state = s } ≡ answer s (step P code S X s)
   step-stops b e l = go (ready P code (X .readings) (X .times) s) e
@@ -51,7 +51,7 @@ module _ (P : Program) (code : List Op) (S : List ℤ) (X : Lent) (s : State) wh
       go (stop n) g = ap (λ (a : Advanced). record { number = a .number; state = s }) g
 
   module _ (u : State) (e : ready P code (X .readings) (X .times) s ≡ ok u) (a : Advanced) (f : a ≡ answer u (tickAll P S (X .results) u)) where
-    -- the tick is refused: so is the step
+    -- where the tick is refused, so is the step
     pub tick-stops : acceptedNumber < a .number → record { number = a .number; state = s } ≡ answer s (step P code S X s)
     tick-stops l = go (tickAll P S (X .results) u) f ∙ ap (λ (o : Outcome). answer s (goes P code S X s o)) (sym e)
       where
@@ -59,7 +59,7 @@ module _ (P : Program) (code : List Op) (S : List ℤ) (X : Lent) (s : State) wh
         go (ok v) g = absurd (omega (arith, l, ap (λ (a : Advanced). a .number) g))
         go (stop n) g = ap (λ (a : Advanced). record { number = a .number; state = s }) g
 
-    -- it is not: its state is the step's
+    -- where the tick is not refused, its state is the step's
     pub tick-passes : a .number ≡ acceptedNumber → a ≡ answer s (step P code S X s)
     tick-passes z = go (tickAll P S (X .results) u) refl f ∙ ap (λ (o : Outcome). answer s (goes P code S X s o)) (sym e)
       where

@@ -1,2 +1,2 @@
 -- What an advance is lent.
-pub mod Lent
+pub mod Advancing

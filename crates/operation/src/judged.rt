@@ -6,16 +6,16 @@ ghost use Rattle.program.specs.Tables.{tablesIn};
 ghost use Rattle.rules.specs.Shape.{badSlice};
 ghost use Rattle.machine.specs.declared.State.{State};
 ghost use Rattle.machine.specs.Advance.{advanceShapeBad, advanceVerdict};
-ghost use Rattle.operation.specs.Lent.{lent, advancing};
+ghost use Rattle.operation.specs.Advancing.{lentOf, advancing};
 use cells::columns::schedule;
 use cells::limits::Program;
 use cells::refusals;
-use fields::slices;
 use machine::State;
+use rules_1_2::slices;
 use suppliers::joined;
 use ticking::range;
 
-// The E code is not whole instructions, or more of them than the limit.
+// The E code is not whole instructions, or has more of them than the limit.
 fn bad_code(code: &[u32]) -> bool
     ensures { λ r. ⌜ r ≡ badSlice wordsEach maxCode (now (code .entry)) ⌝ }
 {
@@ -23,7 +23,7 @@ fn bad_code(code: &[u32]) -> bool
     !whole | (Program::CODE < code.len() / Program::WORDS)
 }
 
-// Number 1 of all slices that are lent, whatever the start mode and the state.
+// Some slice that is lent breaks number 1, whatever the start mode and the state.
 fn shape_bad(
     tables: &[&[i32]; Program::TABLES],
     code: &[u32],
@@ -32,7 +32,7 @@ fn shape_bad(
     results: &[i32],
     times: &[i32],
 ) -> bool
-    ensures { λ r. ⌜ ((start : ℤ) (s : State) → let X = lent (now (readings .entry)) (now (results .entry)) (now (times .entry)) in
+    ensures { λ r. ⌜ ((start : ℤ) (s : State) → let X = lentOf (now (readings .entry)) (now (results .entry)) (now (times .entry)) in
         let T = tablesIn (now (tables .entry)) start in
         r ≡ advanceShapeBad (advancing T (now (code .entry)) (now (schedule .entry)) s X)) ⌝ }
 {
@@ -44,7 +44,7 @@ fn shape_bad(
         | (times.len() != Program::TASKS)
 }
 
-// The first number that applies, or 0.
+// The first of numbers 1 to 11, 13 and 21 that applies to an advance; 0 where none does.
 pub fn number(
     tables: &[&[i32]; Program::TABLES],
     program: Program,
@@ -55,14 +55,14 @@ pub fn number(
     results: &[i32],
     times: &[i32],
 ) -> usize
-    ensures { λ r. ⌜ (let X = lent (now (readings .entry)) (now (results .entry)) (now (times .entry)) in
+    ensures { λ r. ⌜ (let X = lentOf (now (readings .entry)) (now (results .entry)) (now (times .entry)) in
         let T = tablesIn (now (tables .entry)) (program .start) in
         r ≡ advanceVerdict (advancing T (now (code .entry)) (now (schedule .entry)) s X)) ⌝ }
 {
     if shape_bad(tables, code, schedule, readings, results, times) {
         return refusals::SHAPE;
     }
-    let number = lent::lent_verdict(tables, program);
+    let number = verdict_2_11::tables_and_code(tables, program);
     if refusals::ACCEPTED < number {
         return number;
     }

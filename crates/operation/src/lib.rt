@@ -10,7 +10,7 @@ ghost use Rattle.rules.specs.Shape.{InShape};
 ghost use Rattle.code.specs.Op.{instructions};
 ghost use Rattle.suppliers.specs.Schedule.{Rows};
 ghost use Rattle.machine.specs.Advance.{stateOf, ready, step, answer, freshAnswer, advanceAnswer};
-ghost use Rattle.operation.specs.Lent.{lent, advancing};
+ghost use Rattle.operation.specs.Advancing.{lentOf, advancing};
 use cells::limits::Program;
 use cells::refusals;
 use cells::tables;
@@ -38,7 +38,7 @@ fn begun(values: [i32; Program::PORTS]) -> State
     }
 }
 
-// A fresh state of an accepted program; refused, all 0. Any slices at all may be lent.
+// The fresh state of an accepted program; all 0 where the program is refused. Any slices at all may be lent.
 pub fn fresh(tables: &[&[i32]; Program::TABLES], program: Program) -> Advanced
     ensures { λ r. ⌜ r ≡ freshAnswer (tablesIn (now (tables .entry)) (program .start)) ⌝ }
 {
@@ -56,7 +56,7 @@ pub fn fresh(tables: &[&[i32]; Program::TABLES], program: Program) -> Advanced
     }
 }
 
-// The E code runs if no tick of the unit remains.
+// The E part of an advance: the E code runs if no tick of the unit remains.
 fn ready(
     tables: &[&[i32]; Program::TABLES],
     code: &[u32],
@@ -74,10 +74,10 @@ fn ready(
             state: s,
         };
     }
-    instants::run(tables, code, readings, times, s)
+    instants::instant(tables, code, readings, times, s)
 }
 
-// The E code, then one tick of the schedules.
+// The step of an advance: the E code if no tick of the unit remains, then one tick of the schedules.
 fn step(
     tables: &[&[i32]; Program::TABLES],
     code: &[u32],
@@ -91,7 +91,7 @@ fn step(
     requires { ⌜ length (now code) / wordsEach ≤ maxCode ⌝ }
     requires { ⌜ s .current < length (now code) / wordsEach ⌝ }
     requires { ⌜ s .elapsed ≤ maxElapsed ⌝ }
-    ensures { λ r. ⌜ ((start : ℤ) → let X = lent (now (readings .entry)) (now (results .entry)) (now (times .entry)) in
+    ensures { λ r. ⌜ ((start : ℤ) → let X = lentOf (now (readings .entry)) (now (results .entry)) (now (times .entry)) in
         let T = tablesIn (now (tables .entry)) start in
         Rows T (now (schedule .entry))
         → r ≡ answer s (step (programOf T) (instructions (now (code .entry))) (now (schedule .entry)) X s)) ⌝ }
@@ -116,7 +116,7 @@ fn step(
     after
 }
 
-// An advance of one tick. Any slices, any words and any state at all may be lent.
+// An advance of the machine by one tick. Any slices, any words and any state at all may be lent.
 pub fn advance(
     tables: &[&[i32]; Program::TABLES],
     program: Program,
@@ -127,7 +127,7 @@ pub fn advance(
     results: &[i32],
     times: &[i32],
 ) -> Advanced
-    ensures { λ r. ⌜ (let X = lent (now (readings .entry)) (now (results .entry)) (now (times .entry)) in
+    ensures { λ r. ⌜ (let X = lentOf (now (readings .entry)) (now (results .entry)) (now (times .entry)) in
         let T = tablesIn (now (tables .entry)) (program .start) in
         r ≡ advanceAnswer (advancing T (now (code .entry)) (now (schedule .entry)) s X)) ⌝ }
 {

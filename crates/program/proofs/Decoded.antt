@@ -1,5 +1,5 @@
 -- The program that the tables say: its parts are the tables' rows, by number and those that are due; the next unit.
--- Assumes nothing; of a part by number, that it is declared.
+-- Assumes of a part by number that it is declared.
 use Prim.Native.Nat.{ℕ, suc, _%_, _<_}
 use mathlib.Core.Path.{_≡_, refl, sym, ap, _∙_}
 use mathlib.Core.Bool.{Bool, true, false, _&&_}
@@ -15,10 +15,15 @@ use Rattle.theory.specs.Lists.{those, keep, member}
 use Rattle.theory.proofs.Bools.{clash, says-eq, is-true, _and_}
 use Rattle.theory.proofs.Lists.{each-length, each-at, every-each, every-at, keep-those, those-same, map-those}
 use Rattle.theory.proofs.Members.{Has, has-those, has-keep, has-map, member-says}
-use Rattle.program.specs.Tables.{Tables, portCount, output, taskCount, taskPortCount, taskPortTask, taskPortPort, driverCount, copyCount, copyDriver, modeCount, invocationWidth, invocationCount, invocationMode, invocationFrequency, invocationTask, updateWidth, updateCount, updateMode, updateFrequency, switchWidth, switchCount, switchMode, switchFrequency}
+use Rattle.program.specs.Tables.{Tables, portCount, output, taskCount, taskPortCount, taskPortTask, taskPortPort, driverCount}
+use Rattle.program.specs.Tables.{copyCount, copyDriver, modeCount, invocationWidth, invocationCount, invocationMode}
+use Rattle.program.specs.Tables.{invocationFrequency, invocationTask, updateWidth, updateCount, updateMode, updateFrequency}
+use Rattle.program.specs.Tables.{switchWidth, switchCount, switchMode, switchFrequency}
 use Rattle.program.specs.Sets.{isKind, OfKind, sensorRows}
 use Rattle.program.specs.Units.{units, due, rowDue, dueRows}
-use Rattle.program.specs.Program.{Copy, Task, Invocation, Update, Switch, Mode, copyRow, driverRow, portsOf, taskRow, invocationRow, updateRow, switchRow, modeRow, programOf, task, driver, mode, nextUnit, dueInvocations, dueUpdates, dueSwitches, dueTasks}
+use Rattle.program.specs.Program.{Copy, Task, Invocation, Update, Switch, Mode, copyRow, driverRow, portsOf, taskRow, invocationRow}
+use Rattle.program.specs.Program.{updateRow, switchRow, modeRow, programOf, task, driver, mode, nextUnit, dueInvocations}
+use Rattle.program.specs.Program.{dueUpdates, dueSwitches, dueTasks}
 use Rattle.program.proofs.Sets.{kind-says}
 
 -- the unit after one of a mode's units, around the round
@@ -29,7 +34,7 @@ next-around M k l = go (eqb (suc k) (M .units)) refl
     go true e = rw (eqb-true (suc k) (M .units) e) (sym (mod-self (M .units)))
     go false e = let h : suc k < M .units = omega (arith, eqb-false (suc k) (M .units) e) in sym (mod-eq-of-lt h)
 
--- it is one of them
+-- the unit after one of a mode's units is one of them too
 pub next-below : (M : Mode) (k : ℕ) → k < M .units → nextUnit M k < M .units
 next-below M k l = rw (next-around M k l) (mod-lt (suc k) {m = M .units} (omega arith))
 
@@ -72,7 +77,7 @@ module _ (T : Tables) where
   pub mode-row : (m : ℕ) → m < modeCount T → mode (programOf T) m ≡ modeRow T m
   mode-row m h = each-at (modeRow T) (modeCount T) m _ h
 
-  -- some copy of a driver
+  -- some copy of a driver has Q exactly where some row of the copies of that driver has
   pub has-copies : (Q : Copy → Type 0) (d : ℕ)
       → Has Q (driverRow T d .copies) ↔ ((c : ℕ) × (c < copyCount T) × (copyDriver T c ≡ d) × Q (copyRow T c))
   has-copies Q d =
@@ -81,7 +86,7 @@ module _ (T : Tables) where
         λ w. r .1 (w .0, w .1, eq-eqb (copyDriver T (w .0)) d (w .2), w .3),
       )
 
-  -- some port of this kind of a task
+  -- some port of this kind of a task has Q exactly where some row of the task ports of that task and kind has
   pub has-ports : (Q : ℕ → Type 0) (kind t : ℕ)
       → Has Q (portsOf T kind t)
       ↔ ((k : ℕ) × (k < taskPortCount T) × ((taskPortTask T k ≡ t) × OfKind T kind (taskPortPort T k)) × Q (taskPortPort T k))
@@ -130,30 +135,30 @@ module _ (T : Tables) where
       )
 
   module _ (m k : ℕ) (l : m < modeCount T) where
-    -- some invocation of a mode that is due
+    -- some invocation of a mode that is due has Q exactly where some row of the table has
     pub has-invocations : (Q : Invocation → Type 0)
         → Has Q (dueInvocations (mode (programOf T) m) k)
         ↔ DueRow (invocationCount T) (invocationMode T) (invocationFrequency T) m k (λ i. Q (invocationRow T i))
     has-invocations Q = rw (mode-row m l) (has-due Q (λ r. r .frequency) (invocationMode T) (invocationRow T) (invocationCount T) m k)
 
-    -- some task of a mode that is due
+    -- some task of a mode that is due has Q exactly where some row of the invocations has
     pub has-tasks : (Q : ℕ → Type 0)
         → Has Q (dueTasks (mode (programOf T) m) k) ↔ DueRow (invocationCount T) (invocationMode T) (invocationFrequency T) m k (λ i. Q (invocationTask T i))
     has-tasks Q = Iff·trans (has-map Q (λ r. r .task) (dueInvocations (mode (programOf T) m) k)) (has-invocations (λ r. Q (r .task)))
 
-    -- the tasks of a mode that are due, by rows
+    -- the tasks of a mode that are due are those of the due rows of the invocations
     pub due-task-rows : dueTasks (mode (programOf T) m) k ≡ those (rowDue invocationWidth (T .invocations) m (units T m) k) (invocationTask T) (invocationCount T) 0
     due-task-rows =
         ap (λ (M : Mode). dueTasks M k) (mode-row m l)
         ∙ ap (map (λ (r : Invocation). r .task)) (due-invocations m k)
         ∙ map-those (λ (r : Invocation). r .task) (rowDue invocationWidth (T .invocations) m (units T m) k) (invocationRow T) (invocationCount T) 0
 
-    -- some update of a mode that is due
+    -- some update of a mode that is due has Q exactly where some row of the table has
     pub has-updates : (Q : Update → Type 0)
         → Has Q (dueUpdates (mode (programOf T) m) k) ↔ DueRow (updateCount T) (updateMode T) (updateFrequency T) m k (λ i. Q (updateRow T i))
     has-updates Q = rw (mode-row m l) (has-due Q (λ r. r .frequency) (updateMode T) (updateRow T) (updateCount T) m k)
 
-    -- some switch of a mode that is due
+    -- some switch of a mode that is due has Q exactly where some row of the table has
     pub has-switches : (Q : Switch → Type 0)
         → Has Q (dueSwitches (mode (programOf T) m) k) ↔ DueRow (switchCount T) (switchMode T) (switchFrequency T) m k (λ i. Q (switchRow T i))
     has-switches Q = rw (mode-row m l) (has-due Q (λ r. r .frequency) (switchMode T) (switchRow T) (switchCount T) m k)

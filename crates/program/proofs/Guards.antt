@@ -12,8 +12,8 @@ use Rattle.theory.specs.Claim.{Says}
 use Rattle.theory.specs.Order.{_≤Z_}
 use Rattle.theory.proofs.Bools.{clash, is-true, says-not, says-or, says-as, says-eq}
 use Rattle.theory.proofs.Order.{le-refl, le-trans, overlap}
-use Rattle.cells.specs.Reading.{inside, Inside, Value, noReading}
-use Rattle.cells.proofs.Readings.{inside-says}
+use Rattle.readings.specs.Reading.{inside, Inside, Value, noReading}
+use Rattle.readings.proofs.Readings.{inside-says}
 use Rattle.program.specs.Tables.{Tables, guardKind, guardPort, guardLow, guardHigh, kindAlways}
 use Rattle.program.specs.Guard.{Guard, always, interval, guardOf, holds, meet, Meet}
 
@@ -22,7 +22,7 @@ abbrev pub Bounded : Guard → Type 0
 Bounded always = Unit {0}
 Bounded (interval p low high) = Value low × Value high
 
--- and so is what lies between them
+-- what lies between bounds of 32 bits is of 32 bits
 between : (p : ℕ) (low high : ℤ) (v : ℕ → ℤ) → Bounded (interval p low high) → holds (interval p low high) v ≡ true → Value (v p)
 between p low high v b h =
     let w = inside-says low (v p) high .yes h in
@@ -51,7 +51,7 @@ hold-meet (interval p l h) (interval q k j) v b c e f =
     at-q true s = rw (← (eqb-true q p s)) f
     at-q false s = f
 
--- an interval has a number too
+-- the bounds of an interval are of 32 bits, and some number lies between them
 abbrev pub Sound : Guard → Type 0
 Sound always = Unit {0}
 Sound (interval p low high) = Value low × Value high × (low ≤Z high)
@@ -64,7 +64,7 @@ bounded (interval p low high) s = (s .0, s .1)
 surely : {b : Bool} {P : Type 0} → b ≡ true → P → Says b P
 surely e p = record { yes = λ f. p; no = λ f. clash e f }
 
--- an interval has its low bound
+-- an interval that is not empty has its low bound
 in-own : (low high : ℤ) → low ≤Z high → inside low low high ≡ true
 in-own low high o = is-true (inside-says low low high) (le-refl low, o)
 
@@ -79,17 +79,17 @@ meet-says (interval p l h) (interval q k j) s t =
     both : (v : ℕ → ℤ) → inside l (v p) h ≡ true → inside k (v q) j ≡ true → Meet (interval p l h) (interval q k j)
     both v = hold-meet (interval p l h) (interval q k j) v (s .0, s .1) (t .0, t .1)
 
-    -- on two ports each may have its own low bound
+    -- intervals on two ports both hold where each port has its own low bound
     two : (p ≡ q → ⊥) → Meet (interval p l h) (interval q k j)
     two d =
         both (λ r. cond (eqb r p) l k) (rw (eq-eqb p p refl) (in-own l h (s .2)))
         (rw (ne-eqb q p (λ e. d (sym e))) (in-own k j (t .2)))
 
-    -- on one port they meet in a number of both
+    -- intervals on one port meet in a number of both
     one : (z : ℤ) × (l ≤Z z) × (z ≤Z h) × (k ≤Z z) × (z ≤Z j) → Meet (interval p l h) (interval q k j)
     one (z, a, b, c, d) = both (λ r. z) (is-true (inside-says l z h) (a, b)) (is-true (inside-says k z j) (c, d))
 
-    -- what a valuation has at the port that both read
+    -- what a valuation has at the port that both guards read lies in both intervals
     back : Meet (interval p l h) (interval q k j) → (b : Bool) → eqb p q ≡ b
         → (p ≡ q → ⊥) ⊎ ((z : ℤ) × (l ≤Z z) × (z ≤Z h) × (k ≤Z z) × (z ≤Z j))
     back m false e = inl (eqb-false p q e)
@@ -109,14 +109,14 @@ module _ (T : Tables) where
       → holds (guardOf T d) v ≡ true → holds (guardOf T e) v ≡ true → Meet (guardOf T d) (guardOf T e)
   guards-meet d e v s t = hold-meet (guardOf T d) (guardOf T e) v (bounded (guardOf T d) s) (bounded (guardOf T e) t)
 
--- A driver's guard by its kind
+-- A driver's guard by its kind.
 guard-always : (T : Tables) (d : ℕ) → eqb (guardKind T d) kindAlways ≡ true → guardOf T d ≡ always
 guard-always T d e = ap (λ (b : Bool). elim b [ true ↦ always | false ↦ interval (guardPort T d) (guardLow T d) (guardHigh T d) ]) e
 
 guard-interval : (T : Tables) (d : ℕ) → eqb (guardKind T d) kindAlways ≡ false → guardOf T d ≡ interval (guardPort T d) (guardLow T d) (guardHigh T d)
 guard-interval T d e = ap (λ (b : Bool). elim b [ true ↦ always | false ↦ interval (guardPort T d) (guardLow T d) (guardHigh T d) ]) e
 
--- so it holds always, or where the port's value lies in its interval
+-- a driver's guard holds always, or where the port's value lies in its interval
 pub holds-always : (T : Tables) (d : ℕ) (v : ℕ → ℤ) → eqb (guardKind T d) kindAlways ≡ true → holds (guardOf T d) v ≡ true
 holds-always T d v e = ap (λ (g : Guard). holds g v) (guard-always T d e)
 
@@ -124,14 +124,14 @@ pub holds-interval : (T : Tables) (d : ℕ) (v : ℕ → ℤ) → eqb (guardKind
     → holds (guardOf T d) v ≡ inside (guardLow T d) (v (guardPort T d)) (guardHigh T d)
 holds-interval T d v e = ap (λ (g : Guard). holds g v) (guard-interval T d e)
 
--- and two drivers' guards meet where one is always
+-- two drivers' guards meet where one is always
 pub always-meets : (T : Tables) (d e : ℕ) → eqb (guardKind T d) kindAlways ≡ true → meet (guardOf T d) (guardOf T e) ≡ true
 always-meets T d e a = ap (λ (g : Guard). meet g (guardOf T e)) (guard-always T d a)
 
 pub meets-always : (T : Tables) (d e : ℕ) → eqb (guardKind T d) kindAlways ≡ false → eqb (guardKind T e) kindAlways ≡ true → meet (guardOf T d) (guardOf T e) ≡ true
 meets-always T d e a b = ap₂ meet (guard-interval T d a) (guard-always T e b)
 
--- and two intervals on two ports, or where each begins no later than the other ends
+-- two drivers' intervals meet on two ports, or where each begins no later than the other ends
 pub intervals-meet : (T : Tables) (d e : ℕ) → eqb (guardKind T d) kindAlways ≡ false → eqb (guardKind T e) kindAlways ≡ false
     → meet (guardOf T d) (guardOf T e) ≡ (not (eqb (guardPort T d) (guardPort T e)) || (leZ (guardLow T d) (guardHigh T e) && leZ (guardLow T e) (guardHigh T d)))
 intervals-meet T d e a b = ap₂ meet (guard-interval T d a) (guard-interval T e b)

@@ -1,4 +1,4 @@
--- The tables by their place: which stands where, how many rows each has, and what is past the last. Assumes nothing.
+-- The tables by their place: which stands where, how many rows each has, and what is past the last.
 use Prim.Native.Nat.{ℕ, zero, suc, _/_, _≤_, _<_}
 use mathlib.Core.Path.{_≡_, refl}
 use mathlib.Core.List.{List, [], _∷_}
@@ -42,7 +42,7 @@ pub rows-at : (lent : List (RefT (List ℤ))) (start : ℤ) (place : ℕ) → pl
     → length (tableAt lent place) / getD widths place 0 ≡ rowsAt (tablesIn lent start) place
 rows-at lent start place l = counted widths (tableAt lent) place l
 
--- no row is empty
+-- a row of each table has some number
 some-width : (ws : List ℕ) → Every (λ w. 0 < w) ws → (k : ℕ) → k < length ws → 0 < getD ws k 0
 some-width [] h k l = absurd (omega arith)
 some-width (w ∷ ws) h zero l = h .0
@@ -51,7 +51,7 @@ some-width (w ∷ ws) h (suc k) l = some-width ws (h .1) k (omega arith)
 pub width-some : (place : ℕ) → place < tableCount → 0 < getD widths place 0
 width-some place l = some-width widths (search arith) place l
 
--- past the last table there are none
+-- past the last table there are no rows
 pub rows-past : (lent : List (RefT (List ℤ))) (start : ℤ) (place : ℕ) → tableCount ≤ place → rowsAt (tablesIn lent start) place ≡ 0
 rows-past lent start place h = List·getD-eq-default (counts widths (tableAt lent)) 0 h
 

@@ -1,5 +1,4 @@
 -- The units of a mode: within the limit, the number that the search finds is the least common multiple of its frequencies.
--- Assumes nothing.
 use Prim.Native.Nat.{ℕ, zero, suc, _%_, _≤_, _∣_}
 use mathlib.Core.Path.{_≡_, refl, subst}
 use mathlib.Core.Bool.{Bool}
@@ -12,16 +11,17 @@ use Rattle.theory.specs.Search.{first}
 use Rattle.theory.proofs.Bools.{says-as, says-eq, bars-not, bars-as, _or_, says-bars}
 use Rattle.theory.proofs.Search.{first-within, first-has, first-least, rows-bar}
 use Rattle.cells.specs.Limits.{maxUnits}
-use Rattle.program.specs.Tables.{Tables, invocationMode, invocationFrequency, updateMode, updateFrequency, switchMode, switchFrequency}
+use Rattle.program.specs.Tables.{Tables, invocationMode, invocationFrequency, updateMode, updateFrequency, switchMode}
+use Rattle.program.specs.Tables.{switchFrequency}
 use Rattle.program.specs.Units.{misses, rowMisses, isMultiple, units, Multiple, Units}
 
--- u misses f: f does not divide u. A frequency 0 divides only 0
+-- the test says that f does not divide u; a frequency 0 divides only 0
 pub misses-bars : (u f : ℕ) → Bars (misses u f) (f ∣ u)
 unfolding misses
 misses-bars u f = bars-not (says-as (says-eq (u % f) 0) (dvd-of-mod-eq-zero f) (mod-eq-zero-of-dvd f))
 
 module _ (T : Tables) (m : ℕ) where
-  -- u is a multiple of every frequency of mode m
+  -- the test says that u is a multiple of every frequency of mode m
   pub multiple-says : (u : ℕ) → Says (isMultiple T m u) (Multiple T m u)
   unfolding isMultiple rowMisses
   multiple-says u =
@@ -33,17 +33,17 @@ module _ (T : Tables) (m : ℕ) where
       (λ g f. ⊎-elim (g .0 .0 f) (⊎-elim (g .0 .1 f) (g .1 f)))
       (λ g. ((λ f w. g f (inl w), λ f w. g f (inr (inl w))), λ f w. g f (inr (inr w)))))
 
-  -- a mode has a unit
+  -- a mode has at least one unit
   pub units-some : 1 ≤ units T m
   unfolding units
   units-some = omega arith
 
-  -- and at most one more than the limit
+  -- a mode has at most one unit more than the limit
   pub units-within : units T m ≤ suc maxUnits
   unfolding units
   units-within = omega (arith, first-within (λ u. isMultiple T m (suc u)) maxUnits)
 
-  -- what the search finds is the least: what is left over of another multiple is a smaller one
+  -- what the search finds divides every multiple: what is left over of another multiple is a smaller one
   pub units-least : units T m ≤ maxUnits → Units T m (units T m)
   unfolding units
   units-least h = record { some = omega arith; multiple = mine; least = λ w k. dvd-of-mod-eq-zero u (none w k (w % u) refl) }
@@ -64,7 +64,7 @@ module _ (T : Tables) (m : ℕ) where
           (multiple-says (suc r) .no (first-least passes maxUnits r (omega (arith, mod-lt w {m = u} (omega arith))))
           (λ f q. subst (λ (x : ℕ). f ∣ x) e (dvd-mod-iff f (mine f q) .1 (k f q))))
 
-  -- and a least common multiple within the limit is the number that the search finds
+  -- a least common multiple within the limit is the number that the search finds
   pub units-only : (u : ℕ) → Units T m u → u ≤ maxUnits → units T m ≡ u
   unfolding units
   units-only zero s l = absurd (omega (arith, s .some))

@@ -1,5 +1,5 @@
 -- A program as 001 has it (section 3.1), decoded from its tables: tasks, drivers and modes with their parts.
--- Every list is in table order. Assumes nothing.
+-- Every list is in table order.
 use Prim.Native.Nat.{ℕ, suc, _/_}
 use mathlib.Core.Bool.{true, false, _&&_}
 use mathlib.Core.List.{List, [], map}
@@ -9,9 +9,12 @@ use lib.ListN.{getD}
 use Rattle.theory.specs.Lists.{those, each, keep}
 use Rattle.cells.specs.Limits.{maxPorts}
 use Rattle.program.specs.Tables.{Tables, startMode, portCount, portFirst, sensor, input, output, taskCount, taskSupplier, taskWorst}
-use Rattle.program.specs.Tables.{taskPortCount, taskPortTask, taskPortPort, driverCount, copyCount, copyDriver, copySource, copyDestination}
-use Rattle.program.specs.Tables.{modeCount, modePeriod, modePortCount, modePortMode, modePortPort, invocationCount, invocationMode, invocationFrequency}
-use Rattle.program.specs.Tables.{invocationTask, invocationDriver, updateCount, updateMode, updateFrequency, updateDriver, switchCount, switchMode}
+use Rattle.program.specs.Tables.{taskPortCount, taskPortTask, taskPortPort, driverCount, copyCount, copyDriver, copySource}
+use Rattle.program.specs.Tables.{copyDestination}
+use Rattle.program.specs.Tables.{modeCount, modePeriod, modePortCount, modePortMode, modePortPort, invocationCount, invocationMode}
+use Rattle.program.specs.Tables.{invocationFrequency}
+use Rattle.program.specs.Tables.{invocationTask, invocationDriver, updateCount, updateMode, updateFrequency, updateDriver}
+use Rattle.program.specs.Tables.{switchCount, switchMode}
 use Rattle.program.specs.Tables.{switchFrequency, switchTarget, switchDriver}
 use Rattle.program.specs.Guard.{Guard, always, guardOf}
 use Rattle.program.specs.Sets.{isKind}
@@ -21,12 +24,12 @@ pub record Copy : Type 0 where
   pub source : ℕ
   pub destination : ℕ
 
--- (d, Src, g, Dst, h): the copies are h
+-- a driver (d, Src, g, Dst, h) of 001: the copies are h
 pub record Driver : Type 0 where
   pub guard : Guard
   pub copies : List Copy
 
--- (t, In, Out), with what document 01 adds
+-- a task (t, In, Out) of 001, with what document 01 adds
 pub record Task : Type 0 where
   pub supplier : ℕ
   pub worst : ℕ
@@ -47,7 +50,7 @@ pub record Switch : Type 0 where
   pub target : ℕ
   pub driver : ℕ
 
--- (m, π, ModePorts, Invokes, Updates, Switches), and its units
+-- a mode (m, π, ModePorts, Invokes, Updates, Switches) of 001, and its units
 pub record Mode : Type 0 where
   pub period : ℕ
   pub units : ℕ
@@ -56,7 +59,7 @@ pub record Mode : Type 0 where
   pub updates : List Update
   pub switches : List Switch
 
--- first: the first value of each of the 64 ports, 0 where none is declared
+-- a program; `first` is the first value of each of the 64 ports, 0 where none is declared
 pub record Program : Type 0 where
   pub start : ℕ
   pub first : List ℤ
@@ -65,7 +68,7 @@ pub record Program : Type 0 where
   pub drivers : List Driver
   pub modes : List Mode
 
--- what the tables declare
+-- the parts of a program that the tables declare
 abbrev pub copyRow : Tables → ℕ → Copy
 copyRow T c = record { source = copySource T c; destination = copyDestination T c }
 
@@ -117,7 +120,7 @@ driver P d = getD (P .drivers) d (record { guard = always; copies = [] })
 abbrev pub mode : Program → ℕ → Mode
 mode P m = getD (P .modes) m (record { period = 0; units = 0; ports = []; invocations = []; updates = []; switches = [] })
 
--- a unit is period / units ticks
+-- how many ticks a unit of a mode has: period / units
 abbrev pub ticksOf : Mode → ℕ
 ticksOf M = M .period / M .units
 

@@ -1,6 +1,5 @@
 -- The sets of 001 that the tables declare: ports by kind, inputs and outputs of a task, mode ports, sources and destinations
 -- of a driver. Each twice: as a test, and as a claim with its quantifier over rows.
--- Assumes nothing.
 use Prim.Native.Nat.{ℕ, _<_}
 use mathlib.Core.Path.{_≡_}
 use mathlib.Core.Bool.{Bool, _&&_, _||_}
@@ -15,51 +14,51 @@ use Rattle.program.specs.Tables.{Tables, portWidth, portCount, portKind,
 use Rattle.program.specs.Tables.{taskPortPort, guardKind, guardPort, kindInterval, copyCount, copyDriver, copySource, copyDestination}
 use Rattle.program.specs.Tables.{modePortCount, modePortMode, modePortPort}
 
--- p is a declared port of this kind
+-- port p is declared and of this kind
 unfoldable pub isKind : Tables → ℕ → ℕ → Bool
 isKind T kind p = ltb p (portCount T) && eqb (portKind T p) kind
 
--- row k of the task ports is (t, p), row k of the mode ports is (m, p)
+-- row k of the task ports says that task t has port p; row k of the mode ports says that mode m has port p
 unfoldable pub isTaskPort : Tables → ℕ → ℕ → ℕ → Bool
 isTaskPort T t p k = eqb (taskPortTask T k) t && eqb (taskPortPort T k) p
 
 unfoldable pub modePortAt : Tables → ℕ → ℕ → ℕ → Bool
 modePortAt T m p k = eqb (modePortMode T k) m && eqb (modePortPort T k) p
 
--- p is an input of task t, an output of task t
+-- port p is an input of task t; port p is an output of task t
 unfoldable pub isInput : Tables → ℕ → ℕ → Bool
 isInput T t p = isKind T input p && any (isTaskPort T t p) (taskPortCount T)
 
 unfoldable pub isOutput : Tables → ℕ → ℕ → Bool
 isOutput T t p = isKind T output p && any (isTaskPort T t p) (taskPortCount T)
 
--- p is a port of mode m
+-- port p is a port of mode m
 unfoldable pub isModePort : Tables → ℕ → ℕ → Bool
 isModePort T m p = any (modePortAt T m p) (modePortCount T)
 
--- row c of the copies is one of driver d, from p; one of driver d, to p
+-- row c of the copies is a copy of driver d from port p; row c is a copy of driver d to port p
 unfoldable pub copiesFrom : Tables → ℕ → ℕ → ℕ → Bool
 copiesFrom T d p c = eqb (copyDriver T c) d && eqb (copySource T c) p
 
 unfoldable pub copiesTo : Tables → ℕ → ℕ → ℕ → Bool
 copiesTo T d p c = eqb (copyDriver T c) d && eqb (copyDestination T c) p
 
--- the sources of a driver are its copies' sources and its interval guard's port
+-- port p is a source of driver d, of a copy or as its interval guard's port; port p is a destination of driver d
 unfoldable pub isSource : Tables → ℕ → ℕ → Bool
 isSource T d p = any (copiesFrom T d p) (copyCount T) || (eqb (guardKind T d) kindInterval && eqb (guardPort T d) p)
 
 unfoldable pub isDestination : Tables → ℕ → ℕ → Bool
 isDestination T d p = any (copiesTo T d p) (copyCount T)
 
--- row p of these ports is a sensor
+-- port p of this table of ports is a sensor
 abbrev pub isSensor : List ℤ → ℕ → Bool
 isSensor ports p = eqb (fieldAt portWidth 0 ports p) sensor
 
--- of the rows that are, what stands in each, in table order
+-- what `row` gives of each port that is a sensor, in table order
 abbrev pub sensorRows : {A : Type 0} → List ℤ → (ℕ → A) → List A
 sensorRows ports row = those (isSensor ports) row (rowsIn portWidth ports) 0
 
--- The same as claims.
+-- Each set as a claim: port p is declared and of this kind, a sensor, an actuator; task t has port p.
 abbrev pub OfKind : Tables → ℕ → ℕ → Type 0
 OfKind T kind p = (p < portCount T) × (portKind T p ≡ kind)
 
@@ -72,18 +71,18 @@ Actuator T = OfKind T actuator
 abbrev pub TaskPort : Tables → ℕ → ℕ → Type 0
 TaskPort T t p = (k : ℕ) × (k < taskPortCount T) × ((taskPortTask T k ≡ t) × (taskPortPort T k ≡ p))
 
--- In[t], Out[t]
+-- port p is in In[t] of 001; port p is in Out[t]
 abbrev pub Input : Tables → ℕ → ℕ → Type 0
 Input T t p = OfKind T input p × TaskPort T t p
 
 abbrev pub Output : Tables → ℕ → ℕ → Type 0
 Output T t p = OfKind T output p × TaskPort T t p
 
--- ModePorts[m]
+-- port p is in ModePorts[m] of 001
 abbrev pub ModePort : Tables → ℕ → ℕ → Type 0
 ModePort T m p = (k : ℕ) × (k < modePortCount T) × ((modePortMode T k ≡ m) × (modePortPort T k ≡ p))
 
--- Src[d], Dst[d]
+-- port p is in Src[d] of 001; port p is in Dst[d]
 abbrev pub Source : Tables → ℕ → ℕ → Type 0
 Source T d p =
     ((c : ℕ) × (c < copyCount T) × ((copyDriver T c ≡ d) × (copySource T c ≡ p)))

@@ -1,5 +1,4 @@
 -- The ten tables of a program and its start mode, as they are lent: tables by their place, columns by name, rows by number.
--- Assumes nothing.
 use Prim.Native.Nat.{ℕ}
 use mathlib.Core.List.{List, [], _∷_}
 use lib.IntN.{ℤ}
@@ -73,21 +72,22 @@ updatesAt = 8
 abbrev pub switchesAt : ℕ
 switchesAt = 9
 
--- past the last table, nothing
+-- a table without numbers, which stands past the last table
 abbrev pub noTable : RefT (List ℤ)
 noTable = record { ptr = (0, 0); name = 0; now = [] }
 
 -- the numbers of the table that stands at a place of what is lent
 abbrev pub tableAt : List (RefT (List ℤ)) → ℕ → List ℤ
-tableAt lent place = getD lent place noTable .now
+tableAt slices place = getD slices place noTable .now
 
 -- ten tables lent as one value, with a start mode
 abbrev pub tablesIn : List (RefT (List ℤ)) → ℤ → Tables
-tablesIn lent start =
-    tables (tableAt lent portsAt) (tableAt lent tasksAt) (tableAt lent taskPortsAt) (tableAt lent driversAt) (tableAt lent copiesAt)
-    (tableAt lent modesAt) (tableAt lent modePortsAt) (tableAt lent invocationsAt) (tableAt lent updatesAt) (tableAt lent switchesAt) start
+tablesIn slices start =
+    tables (tableAt slices portsAt) (tableAt slices tasksAt) (tableAt slices taskPortsAt) (tableAt slices driversAt)
+    (tableAt slices copiesAt) (tableAt slices modesAt) (tableAt slices modePortsAt) (tableAt slices invocationsAt)
+    (tableAt slices updatesAt) (tableAt slices switchesAt) start
 
--- ports: kind (0 sensor, 1 actuator, 2 task input, 3 task output), first value
+-- ports, counted, and by row: kind (0 sensor, 1 actuator, 2 task input, 3 task output), first value
 abbrev pub portCount : Tables → ℕ
 portCount T = rowsIn portWidth (T .ports)
 
@@ -109,7 +109,7 @@ input = 2
 abbrev pub output : ℕ
 output = 3
 
--- tasks: supplier 0..7, worst-case time 1..4,096
+-- tasks, counted, and by row: supplier 0..7, worst-case time 1..4,096
 abbrev pub taskCount : Tables → ℕ
 taskCount T = rowsIn taskWidth (T .tasks)
 
@@ -119,7 +119,7 @@ taskSupplier T = fieldAt taskWidth taskSupplierColumn (T .tasks)
 abbrev pub taskWorst : Tables → ℕ → ℕ
 taskWorst T = fieldAt taskWidth taskWorstColumn (T .tasks)
 
--- task ports: task, port
+-- task ports, counted, and by row: task, port
 abbrev pub taskPortCount : Tables → ℕ
 taskPortCount T = rowsIn taskPortWidth (T .taskPorts)
 
@@ -129,7 +129,7 @@ taskPortTask T = namedAt taskPortWidth taskPortTaskColumn (T .taskPorts)
 abbrev pub taskPortPort : Tables → ℕ → ℕ
 taskPortPort T = namedAt taskPortWidth taskPortPortColumn (T .taskPorts)
 
--- drivers: guard kind (0 always, 1 interval), port, low, high
+-- drivers, counted, and by row: guard kind (0 always, 1 interval), port, low, high
 abbrev pub driverCount : Tables → ℕ
 driverCount T = rowsIn driverWidth (T .drivers)
 
@@ -151,7 +151,7 @@ kindAlways = 0
 abbrev pub kindInterval : ℕ
 kindInterval = 1
 
--- copies: driver, source, destination
+-- copies, counted, and by row: driver, source, destination
 abbrev pub copyCount : Tables → ℕ
 copyCount T = rowsIn copyWidth (T .copies)
 
@@ -164,14 +164,14 @@ copySource T = namedAt copyWidth copySourceColumn (T .copies)
 abbrev pub copyDestination : Tables → ℕ → ℕ
 copyDestination T = namedAt copyWidth copyDestinationColumn (T .copies)
 
--- modes: period 1..4,096 ticks
+-- modes, counted, and by row: period 1..4,096 ticks
 abbrev pub modeCount : Tables → ℕ
 modeCount T = rowsIn modeWidth (T .modes)
 
 abbrev pub modePeriod : Tables → ℕ → ℕ
 modePeriod T = fieldAt modeWidth modePeriodColumn (T .modes)
 
--- mode ports: mode, port
+-- mode ports, counted, and by row: mode, port
 abbrev pub modePortCount : Tables → ℕ
 modePortCount T = rowsIn modePortWidth (T .modePorts)
 
@@ -188,7 +188,7 @@ rowMode width = namedAt width modeColumn
 abbrev pub rowFrequency : ℕ → List ℤ → ℕ → ℕ
 rowFrequency width = fieldAt width frequencyColumn
 
--- invocations: mode, frequency, task, driver
+-- invocations, counted, and by row: mode, frequency, task, driver
 abbrev pub invocationCount : Tables → ℕ
 invocationCount T = rowsIn invocationWidth (T .invocations)
 
@@ -204,7 +204,7 @@ invocationTask T = namedAt invocationWidth invocationTaskColumn (T .invocations)
 abbrev pub invocationDriver : Tables → ℕ → ℕ
 invocationDriver T = namedAt invocationWidth invocationDriverColumn (T .invocations)
 
--- updates: mode, frequency, driver
+-- updates, counted, and by row: mode, frequency, driver
 abbrev pub updateCount : Tables → ℕ
 updateCount T = rowsIn updateWidth (T .updates)
 
@@ -217,7 +217,7 @@ updateFrequency T = rowFrequency updateWidth (T .updates)
 abbrev pub updateDriver : Tables → ℕ → ℕ
 updateDriver T = namedAt updateWidth updateDriverColumn (T .updates)
 
--- switches: mode, frequency, target mode, driver
+-- switches, counted, and by row: mode, frequency, target mode, driver
 abbrev pub switchCount : Tables → ℕ
 switchCount T = rowsIn switchWidth (T .switches)
 
@@ -233,7 +233,7 @@ switchTarget T = namedAt switchWidth switchTargetColumn (T .switches)
 abbrev pub switchDriver : Tables → ℕ → ℕ
 switchDriver T = namedAt switchWidth switchDriverColumn (T .switches)
 
--- the rows of the table at a place, counted; none past the last
+-- the rows of the table at a place, counted; none past the last table
 abbrev pub rowsAt : Tables → ℕ → ℕ
 rowsAt T place =
     getD
@@ -251,6 +251,6 @@ rowsAt T place =
     place
     0
 
--- the start mode, a number beside them
+-- the start mode, a number that is lent beside the tables
 abbrev pub startMode : Tables → ℕ
 startMode T = nameOf (indexOf (T .start))

@@ -8,7 +8,7 @@ use cells::columns::timed;
 use cells::kinds::Mode;
 use cells::table;
 
-// A row of frequency f is due at unit k of u.
+// A row of frequency f is due at unit k of a mode of u units.
 fn is_due(u: usize, f: usize, k: usize) -> bool
     ensures { λ r. ⌜ r ≡ due u f k ⌝ }
 {
@@ -22,17 +22,17 @@ fn is_due(u: usize, f: usize, k: usize) -> bool
     k % step == 0
 }
 
-// Row i is one of mode m, which has u units, and due at unit k.
+// Row i of the table is one of mode m, which has u units, and is due at unit k.
 pub fn row_due(t: &[i32], width: usize, m: Mode, u: usize, k: usize, i: usize) -> bool
     requires { ⌜ Column width frequencyColumn ⌝ }
     ensures { λ r. ⌜ r ≡ rowDue width (now (t .entry)) (m .0) u k i ⌝ }
 {
     let own = table::mode(t, width, i, timed::MODE);
     let f = table::field(t, width, i, timed::FREQUENCY);
-    (own.index() == m.index()) & is_due(u, f, k)
+    own.is(m) & is_due(u, f, k)
 }
 
-// How many rows of the table are.
+// How many rows of the table are of mode m, which has u units, and due at unit k.
 pub fn due_rows(t: &[i32], width: usize, m: Mode, u: usize, k: usize) -> usize
     requires { ⌜ Column width frequencyColumn ⌝ }
     ensures { λ r. ⌜ r ≡ length (dueRows width (now (t .entry)) (m .0) u k (λ i. i)) ⌝ }

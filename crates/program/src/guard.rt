@@ -6,44 +6,40 @@ ghost use Rattle.program.specs.Tables.{Tables, guardKind, guardPort, gua
 ghost use Rattle.program.specs.Guard.{guardOf, holds, meet};
 ghost use Rattle.program.specs.Ports.{valueOf};
 use cells::columns::driver;
+use cells::drivers;
 use cells::kinds::Driver;
-use cells::reading;
-use cells::reading::Reading;
-use cells::table;
+use cells::ports;
+use readings::Reading;
 
 // The guard of driver d is always.
 pub fn is_always(drivers: &[i32], d: Driver) -> bool
     ensures { λ r. ⌜ ((T : Tables) → T .drivers ≡ now (drivers .entry) → r ≡ eqb (guardKind T (d .0)) kindAlways) ⌝ }
 {
-    table::field(drivers, driver::WIDTH, d.index(), driver::KIND) == driver::ALWAYS
+    drivers::guard(drivers, d) == driver::ALWAYS
 }
 
 // The guard of driver d is an interval.
 pub fn is_interval(drivers: &[i32], d: Driver) -> bool
     ensures { λ r. ⌜ ((T : Tables) → T .drivers ≡ now (drivers .entry) → r ≡ eqb (guardKind T (d .0)) kindInterval) ⌝ }
 {
-    table::field(drivers, driver::WIDTH, d.index(), driver::KIND) == driver::INTERVAL
+    drivers::guard(drivers, d) == driver::INTERVAL
 }
 
-// The guards of drivers d and e ask one port.
+// The guards of drivers d and e ask the same port.
 fn one_port(drivers: &[i32], d: Driver, e: Driver) -> bool
     ensures { λ r. ⌜ ((T : Tables) → T .drivers ≡ now (drivers .entry) → r ≡ eqb (guardPort T (d .0)) (guardPort T (e .0))) ⌝ }
 {
-    let p = table::port(drivers, driver::WIDTH, d.index(), driver::PORT);
-    let q = table::port(drivers, driver::WIDTH, e.index(), driver::PORT);
-    p.index() == q.index()
+    drivers::port(drivers, d).is(drivers::port(drivers, e))
 }
 
-// The interval of d begins no later than that of e ends.
+// The interval of driver d's guard begins no later than that of driver e's guard ends.
 fn low_at_most_high(drivers: &[i32], d: Driver, e: Driver) -> bool
     ensures { λ r. ⌜ ((T : Tables) → T .drivers ≡ now (drivers .entry) → r ≡ leZ (guardLow T (d .0)) (guardHigh T (e .0))) ⌝ }
 {
-    let low = table::signed(drivers, driver::WIDTH, d.index(), driver::LOW);
-    let high = table::signed(drivers, driver::WIDTH, e.index(), driver::HIGH);
-    reading::at_most(low, high)
+    readings::at_most(drivers::low(drivers, d), drivers::high(drivers, e))
 }
 
-// The guards of drivers d and e can hold for one valuation.
+// The guards of drivers d and e can both hold for one valuation of the ports.
 pub fn guards_meet(drivers: &[i32], d: Driver, e: Driver) -> bool
     ensures { λ r. ⌜ ((T : Tables) → T .drivers ≡ now (drivers .entry) → r ≡ meet (guardOf T (d .0)) (guardOf T (e .0))) ⌝ }
 {
@@ -64,8 +60,6 @@ pub fn guard_holds(drivers: &[i32], d: Driver, values: &[i32]) -> bool
     if is_always(drivers, d) {
         return true;
     }
-    let p = table::port(drivers, driver::WIDTH, d.index(), driver::PORT);
-    let low = table::signed(drivers, driver::WIDTH, d.index(), driver::LOW);
-    let high = table::signed(drivers, driver::WIDTH, d.index(), driver::HIGH);
-    Reading(table::value(values, p.index())).within(low, high)
+    let v = ports::value(values, drivers::port(drivers, d));
+    Reading(v).within(drivers::low(drivers, d), drivers::high(drivers, d))
 }

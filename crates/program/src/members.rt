@@ -14,27 +14,26 @@ use cells::kinds::Driver;
 use cells::kinds::Mode;
 use cells::kinds::Port;
 use cells::kinds::Task;
+use cells::ports;
 use cells::table;
 
-// p is a declared port of this kind.
+// Port p is declared and of this kind.
 pub fn is_kind(ports: &[i32], kind: usize, p: Port) -> bool
     ensures { λ r. ⌜ ((T : Tables) → T .ports ≡ now (ports .entry) → r ≡ isKind T kind (p .0)) ⌝ }
 {
-    let i = p.index();
-    let declared = i < ports.len() / port::WIDTH;
-    declared & (table::field(ports, port::WIDTH, i, port::KIND) == kind)
+    ports::declared(ports, p) & (ports::kind(ports, p) == kind)
 }
 
-// Row k of the task ports is (t, p).
+// Row k of the task ports says that task t has port p.
 fn task_port_at(task_ports: &[i32], t: Task, p: Port, k: usize) -> bool
     ensures { λ r. ⌜ ((T : Tables) → T .taskPorts ≡ now («task_ports» .entry) → r ≡ isTaskPort T (t .0) (p .0) k) ⌝ }
 {
     let a = table::task(task_ports, task_port::WIDTH, k, task_port::TASK);
     let b = table::port(task_ports, task_port::WIDTH, k, task_port::PORT);
-    (a.index() == t.index()) & (b.index() == p.index())
+    a.is(t) & b.is(p)
 }
 
-// One of the first n task port rows is.
+// One of the first n rows of the task ports says that task t has port p.
 pub fn has_task_port(task_ports: &[i32], t: Task, p: Port, n: usize) -> bool
     ensures { λ r. ⌜ ((T : Tables) → T .taskPorts ≡ now («task_ports» .entry) → r ≡ any (isTaskPort T (t .0) (p .0)) n) ⌝ }
 {
@@ -48,7 +47,7 @@ pub fn has_task_port(task_ports: &[i32], t: Task, p: Port, n: usize) -> bool
     false
 }
 
-// p is an input of task t.
+// Port p is an input of task t.
 pub fn is_input(ports: &[i32], task_ports: &[i32], t: Task, p: Port) -> bool
     ensures { λ r. ⌜ ((T : Tables) → T .ports ≡ now (ports .entry) → T .taskPorts ≡ now («task_ports» .entry)
         → r ≡ isInput T (t .0) (p .0)) ⌝ }
@@ -59,7 +58,7 @@ pub fn is_input(ports: &[i32], task_ports: &[i32], t: Task, p: Port) -> bool
     false
 }
 
-// p is an output of task t.
+// Port p is an output of task t.
 pub fn is_output(ports: &[i32], task_ports: &[i32], t: Task, p: Port) -> bool
     ensures { λ r. ⌜ ((T : Tables) → T .ports ≡ now (ports .entry) → T .taskPorts ≡ now («task_ports» .entry)
         → r ≡ isOutput T (t .0) (p .0)) ⌝ }
@@ -70,16 +69,16 @@ pub fn is_output(ports: &[i32], task_ports: &[i32], t: Task, p: Port) -> bool
     false
 }
 
-// Row k of the mode ports is (m, p).
+// Row k of the mode ports says that mode m has port p.
 fn mode_port_at(mode_ports: &[i32], m: Mode, p: Port, k: usize) -> bool
     ensures { λ r. ⌜ ((T : Tables) → T .modePorts ≡ now («mode_ports» .entry) → r ≡ modePortAt T (m .0) (p .0) k) ⌝ }
 {
     let a = table::mode(mode_ports, mode_port::WIDTH, k, mode_port::MODE);
     let b = table::port(mode_ports, mode_port::WIDTH, k, mode_port::PORT);
-    (a.index() == m.index()) & (b.index() == p.index())
+    a.is(m) & b.is(p)
 }
 
-// One of the first n mode port rows is.
+// One of the first n rows of the mode ports says that mode m has port p.
 pub fn has_mode_port(mode_ports: &[i32], m: Mode, p: Port, n: usize) -> bool
     ensures { λ r. ⌜ ((T : Tables) → T .modePorts ≡ now («mode_ports» .entry) → r ≡ any (modePortAt T (m .0) (p .0)) n) ⌝ }
 {
@@ -93,23 +92,23 @@ pub fn has_mode_port(mode_ports: &[i32], m: Mode, p: Port, n: usize) -> bool
     false
 }
 
-// p is a port of mode m.
+// Port p is a port of mode m.
 pub fn is_mode_port(mode_ports: &[i32], m: Mode, p: Port) -> bool
     ensures { λ r. ⌜ ((T : Tables) → T .modePorts ≡ now («mode_ports» .entry) → r ≡ isModePort T (m .0) (p .0)) ⌝ }
 {
     has_mode_port(mode_ports, m, p, mode_ports.len() / mode_port::WIDTH)
 }
 
-// Row c of the copies is one of driver d, to p.
+// Row c of the copies is a copy of driver d to port p.
 fn copies_to(copies: &[i32], d: Driver, p: Port, c: usize) -> bool
     ensures { λ r. ⌜ ((T : Tables) → T .copies ≡ now (copies .entry) → r ≡ copiesTo T (d .0) (p .0) c) ⌝ }
 {
     let a = table::driver(copies, copy::WIDTH, c, copy::DRIVER);
     let b = table::port(copies, copy::WIDTH, c, copy::DESTINATION);
-    (a.index() == d.index()) & (b.index() == p.index())
+    a.is(d) & b.is(p)
 }
 
-// One of the first n copies is.
+// One of the first n rows of the copies is a copy of driver d to port p.
 pub fn has_copy_to(copies: &[i32], d: Driver, p: Port, n: usize) -> bool
     ensures { λ r. ⌜ ((T : Tables) → T .copies ≡ now (copies .entry) → r ≡ any (copiesTo T (d .0) (p .0)) n) ⌝ }
 {
@@ -123,7 +122,7 @@ pub fn has_copy_to(copies: &[i32], d: Driver, p: Port, n: usize) -> bool
     false
 }
 
-// p is a destination of driver d.
+// Port p is a destination of driver d.
 pub fn is_destination(copies: &[i32], d: Driver, p: Port) -> bool
     ensures { λ r. ⌜ ((T : Tables) → T .copies ≡ now (copies .entry) → r ≡ isDestination T (d .0) (p .0)) ⌝ }
 {
@@ -137,5 +136,5 @@ pub fn one_mode(t: &[i32], width: usize, i: usize, j: usize) -> bool
 {
     let m = table::mode(t, width, i, timed::MODE);
     let n = table::mode(t, width, j, timed::MODE);
-    n.index() == m.index()
+    n.is(m)
 }

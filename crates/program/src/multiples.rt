@@ -12,7 +12,7 @@ use cells::kinds::Mode;
 use cells::limits::Program;
 use cells::table;
 
-// u is no multiple of the frequency f.
+// The number u is no multiple of the frequency f.
 pub fn misses(u: usize, f: usize) -> bool
     ensures { λ r. ⌜ r ≡ misses u f ⌝ }
 {
@@ -22,17 +22,17 @@ pub fn misses(u: usize, f: usize) -> bool
     !(u % f == 0)
 }
 
-// Row i is one of mode m, and u is no multiple of its frequency.
+// Row i of the table is one of mode m, and u is no multiple of its frequency.
 fn row_misses(t: &[i32], width: usize, m: Mode, u: usize, i: usize) -> bool
     requires { ⌜ Column width frequencyColumn ⌝ }
     ensures { λ r. ⌜ r ≡ rowMisses width (now (t .entry)) (m .0) u i ⌝ }
 {
     let own = table::mode(t, width, i, timed::MODE);
     let f = table::field(t, width, i, timed::FREQUENCY);
-    (own.index() == m.index()) & misses(u, f)
+    own.is(m) & misses(u, f)
 }
 
-// Some row of the table is.
+// Some row of the table is one of mode m, and u is no multiple of its frequency.
 fn some_row_misses(t: &[i32], width: usize, m: Mode, u: usize) -> bool
     requires { ⌜ Column width frequencyColumn ⌝ }
     ensures { λ r. ⌜ r ≡ any (rowMisses width (now (t .entry)) (m .0) u) (rowsIn width (now (t .entry))) ⌝ }
@@ -48,7 +48,7 @@ fn some_row_misses(t: &[i32], width: usize, m: Mode, u: usize) -> bool
     false
 }
 
-// u is a multiple of every frequency of mode m.
+// The number u is a multiple of every frequency of mode m.
 fn is_multiple(invocations: &[i32], updates: &[i32], switches: &[i32], m: Mode, u: usize) -> bool
     ensures { λ r. ⌜ ((T : Tables) → T .invocations ≡ now (invocations .entry) → T .updates ≡ now (updates .entry)
         → T .switches ≡ now (switches .entry) → r ≡ isMultiple T (m .0) u) ⌝ }

@@ -5,7 +5,7 @@ ghost use Rattle.program.specs.Tables.{tablesIn, rowsAt};
 use cells::limits::Program;
 use cells::tables;
 
-// None past the last table.
+// How many rows the table at a place has; none past the last table.
 pub fn count(tables: &[&[i32]; Program::TABLES], place: usize) -> usize
     ensures { λ r. ⌜ ((start : ℤ) → r ≡ rowsAt (tablesIn (now (tables .entry)) start) place) ⌝ }
 {

@@ -48,11 +48,11 @@ module _ (T : Tables) (a : programVerdict T ≡ acceptedNumber) where
         ∙ sym (ap (keep (λ t. eqb (task P t .supplier) s)) (due-task-rows T m k l)
         ∙ keep-those (λ t. eqb (task P t .supplier) s) (rowDue invocationWidth (T .invocations) m (units T m) k) (invocationTask T) (invocationCount T) 0)
 
-    -- so a task of the supplier that is due is declared
+    -- a task of the supplier that is due is declared
     rows-declared : (k j : ℕ) → member j (ownRows (T .tasks) (T .invocations) s m (units T m) k) ≡ true → j < taskCount T
     rows-declared k j r = own-declared T a s m k j l (subst (λ (js : List ℕ). member j js ≡ true) (own-rows k) r)
 
-    -- the unit after a unit
+    -- the unit after a unit is the same by the tables and by the program
     after-same : (k : ℕ) → nextOf (units T m) k ≡ nextUnit (mode P m) k
     after-same k = ap (λ (M : Mode). nextUnit M k) (sym (mode-row T m l))
 
@@ -68,7 +68,7 @@ module _ (T : Tables) (a : programVerdict T ≡ acceptedNumber) where
             future-counted P m k,
           )
 
-      -- the course that was counted, and that of the definitions
+      -- the course C that was counted, and the course D of the definitions
       abbrev C : Course
       C = courseOn T W S s sensors m (startIn T sensors m)
 
@@ -85,7 +85,7 @@ module _ (T : Tables) (a : programVerdict T ≡ acceptedNumber) where
         window = refl;
       }
 
-      -- so their runs break alike
+      -- the worst-case runs of both courses break alike
       break-same : worstBreak C nothing ≡ worstBreak D nothing
       break-same =
           judge-same C D course-same (worstCase C) (worstCase D)

@@ -28,7 +28,7 @@ use Rattle.rounds.specs.Course.{courseIn, blockAt, blockIn, rowBefore, C
 use Rattle.rounds.specs.Breaks.{unitEnd, rounded}
 use Rattle.rounds.proofs.Stops.{unit-passed, unit-breaks, unit-own-block}
 
--- the walk goes on: from the address of a block to its end, over the rows found at its `future`
+-- a walk goes on from the address of a block to its end, over the rows found at its `future`
 come-more : (S : List ℤ) (s at row : ℕ) (c : Counts) → Come S s at row → Come S s (at + sizeOf c) (found S row s (at + beforeFuture c) .end)
 come-more S s at row c h =
     let a = at + beforeFuture c in
@@ -55,7 +55,7 @@ rounded-breaks none at row l e f = absurd (omega arith)
 rounded-breaks (outside t) at row l e f = λ j. record { number = e j; tick = f j; at = 0; row = 0 }
 rounded-breaks (late t) at row l e f = λ j. record { number = e j; tick = f j; at = 0; row = 0 }
 
--- and of none
+-- what the code makes of no break is the round without one
 pub rounded-whole : (b : Break) {at row at′ row′ : ℕ} → acceptedNumber ≡ breakNumber b → at ≡ at′ → row ≡ row′
     → _≡_ {A = Rounded} (record { number = acceptedNumber; tick = 0; at = at; row = row }) (rounded b at′ row′)
 unfolding rounded
@@ -79,14 +79,14 @@ rounded-says {r} {b} {at} {row} e = subst (λ (x : Rounded). Told x b at row) (s
     go (late t) = record { number = refl; tick = refl; came = λ e. absurd (omega arith) }
 
 module _ (T : Tables) (W S : List ℤ) (sensors s m u ticks first from : ℕ) where
-  -- what is due at each unit, and the course
+  -- how much is due at each unit (`counts`), and the course of the round (`run`)
   abbrev counts : ℕ → Counts
   counts = countsIn (T .invocations) (T .updates) (T .switches) sensors m u
 
   abbrev run : Course
   run = courseIn (T .tasks) (T .invocations) W s m u ticks (blockIn S s counts first)
 
-  -- after k units
+  -- after k units none broke, the rest is judged as the whole, and the walk has come to this address and this row
   pub record Going (k at row : ℕ) (left : List ℕ) : Type 0 where
     pub in-range : k ≤ u
     pub judged : judge run (worstCase run) (u - k) k left ≡ worstBreak run nothing
@@ -94,7 +94,7 @@ module _ (T : Tables) (W S : List ℤ) (sensors s m u ticks first from : ℕ) wh
     pub come : Come S s at row
     pub walked : row ≡ rowBefore S s counts first from k
 
-  -- the loop begins
+  -- before the first unit the walk stands where the mode begins, and nothing is running
   pub going-none : Come S s first from → Going 0 first from nothing
   going-none w =
       let z : u - 0 ≡ u = omega arith in
@@ -121,7 +121,7 @@ module _ (T : Tables) (W S : List ℤ) (sensors s m u ticks first from : ℕ) wh
           unit-most _ _ _ sensors m u few z k,
         )
 
-    -- where the rows of the next block were found
+    -- the rows found of the next block are rows of the schedule
     pub going-found : (a : ℕ) {span : Span} → span ≡ found S row s a → (span .begin ≤ span .end) × (span .end ≤ scheduleCount S)
     going-found a q =
         let w = found-within S s a row (h .come .within) in
@@ -131,7 +131,7 @@ module _ (T : Tables) (W S : List ℤ) (sensors s m u ticks first from : ℕ) wh
     module _ {c : Counts} {before : ℕ} {span : Span} {part : List ℤ} {unit : Ended} (o : Sorted S) (l : k < u) (d : c ≡ counts k) (b : before ≡ beforeFuture c)
         (q : span ≡ found S row s (at + before)) (p : part ≡ spanOf S span)
         (e : unit ≡ unitEnd (courseIn (T .tasks) (T .invocations) W s m u ticks (λ j. rowsOf part)) k left) where
-      -- the rows found are its block
+      -- the rows found are the block of the next unit
       rows-are : rowsOf part ≡ blockIn S s counts first k
       rows-are =
           ap rowsOf p
@@ -140,17 +140,17 @@ module _ (T : Tables) (W S : List ℤ) (sensors s m u ticks first from : ℕ) wh
           ∙ (λ j. blockOf S s (h .ends j + b j))
           ∙ ap (λ (x : Counts). blockOf S s (blockAt counts first k + beforeFuture x)) d
 
-      -- so it ended as it does in the course
+      -- the next unit ended as it does in the course
       unit-is : unit ≡ unitEnd run k left
       unit-is = e ∙ unit-own-block (T .tasks) (T .invocations) W s m u ticks (blockIn S s counts first) k left rows-are
 
-      -- it and the units after it are judged as the round is
+      -- the next unit and the units after it are judged as the round is
       rest : judge run (worstCase run) (suc (u - (k + 1))) k left ≡ worstBreak run nothing
       rest =
           let z : u - k ≡ suc (u - (k + 1)) = omega arith in
           sym (ap (λ (n : ℕ). judge run (worstCase run) n k left) z) ∙ h .judged
 
-      -- it does not break
+      -- where the next unit does not break, the loop goes on behind its block
       pub going-more : {size : ℕ} → size ≡ sizeOf c → unit .number ≤ acceptedNumber → Going (k + 1) (at + size) (span .end) (unit .left)
       going-more {size} g n =
           let z : unitEnd run k left .number ≡ acceptedNumber = omega (arith, ap (λ (x : Ended). x .number) unit-is) in
@@ -173,7 +173,7 @@ module _ (T : Tables) (W S : List ℤ) (sensors s m u ticks first from : ℕ) wh
                 ∙ ap (rowBefore S s counts first from) (sym (add-one k));
           }
 
-      -- it does
+      -- where the next unit breaks, so does the round, with its number and its tick
       pub going-breaks : acceptedNumber < unit .number
           → record { number = unit .number; tick = unit .tick; at = 0; row = 0 }
           ≡ rounded (worstBreak run nothing) (blockAt counts first u) (rowBefore S s counts first from u)
@@ -182,7 +182,7 @@ module _ (T : Tables) (W S : List ℤ) (sensors s m u ticks first from : ℕ) wh
           rounded-breaks (worstBreak run nothing) _ _ n (ap (λ (x : Ended). x .number) unit-is ∙ w .0 ∙ ap breakNumber rest)
           (ap (λ (x : Ended). x .tick) unit-is ∙ w .1 ∙ ap breakTick rest)
 
-    -- the loop ends: no unit broke
+    -- after the last unit no unit broke, and the round comes to where the walk has come to
     pub going-all : u ≤ k
         → record { number = acceptedNumber; tick = 0; at = at; row = row } ≡ rounded (worstBreak run nothing) (blockAt counts first u) (rowBefore S s counts first from u)
     going-all l =

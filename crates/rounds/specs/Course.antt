@@ -1,5 +1,5 @@
 -- What a supplier does in a mode, from the rows of the lent tables: the tasks that are released and that terminate, where each
--- block stands. That it is the course of suppliers/specs/Supplier for an accepted program is proved in proofs/. Assumes nothing.
+-- block stands. That it is the course of suppliers/specs/Supplier for an accepted program is proved in proofs/.
 use Prim.Native.Nat.{ℕ, zero, suc, _+_, _/_, _≤_}
 use mathlib.Core.Bool.{Bool, _&&_}
 use mathlib.Core.List.{List}
@@ -23,12 +23,13 @@ ownDue tasks invocations s m u k i =
     rowDue invocationWidth invocations m u k i
     && eqb (fieldAt taskWidth taskSupplierColumn tasks (namedAt invocationWidth invocationTaskColumn invocations i)) s
 
--- the tasks of those that are, in table order
+-- the tasks of supplier s that are due at unit k of mode m, which has u units, in table order of the invocations
 abbrev pub ownRows : List ℤ → List ℤ → ℕ → ℕ → ℕ → ℕ → List ℕ
 ownRows tasks invocations s m u k =
-    those (ownDue tasks invocations s m u k) (namedAt invocationWidth invocationTaskColumn invocations) (rowsIn invocationWidth invocations) 0
+    those (ownDue tasks invocations s m u k) (namedAt invocationWidth invocationTaskColumn invocations)
+    (rowsIn invocationWidth invocations) 0
 
--- supplier s in mode m, which has u units of so many ticks, with these blocks
+-- the course of supplier s in mode m, which has u units of so many ticks, with these blocks
 abbrev pub courseIn : List ℤ → List ℤ → List ℤ → ℕ → ℕ → ℕ → ℕ → (ℕ → List Row) → Course
 courseIn tasks invocations W s m u ticks block = record {
   ticks = ticks;
@@ -40,11 +41,11 @@ courseIn tasks invocations W s m u ticks block = record {
   window = inWindow W s m;
 }
 
--- where the block of unit k stands in the listing, if that of unit 0 stands at `first` and there is so much in each
+-- where the block of unit k stands in the listing, if that of unit 0 stands at `first` and the units have these counts
 abbrev pub blockAt : (ℕ → Counts) → ℕ → ℕ → ℕ
 blockAt counts first k = first + sum (λ j. sizeOf (counts j)) k
 
--- the rows at its `future`
+-- the schedule rows at the `future` of unit k, if the block of unit 0 stands at `first` and the units have these counts
 abbrev pub blockIn : List ℤ → ℕ → (ℕ → Counts) → ℕ → ℕ → List Row
 blockIn S s counts first k = blockOf S s (blockAt counts first k + beforeFuture (counts k))
 
@@ -54,7 +55,7 @@ rowBefore S s counts first from zero = from
 rowBefore S s counts first from (suc k) =
     found S (rowBefore S s counts first from k) s (blockAt counts first k + beforeFuture (counts k)) .end
 
--- mode m of these tables, whose first block stands at `first`
+-- the course of supplier s in mode m of these tables, whose first block stands at `first`
 abbrev pub courseOn : Tables → List ℤ → List ℤ → ℕ → ℕ → ℕ → ℕ → Course
 courseOn T W S s sensors m first =
     courseIn (T .tasks) (T .invocations) W s m (units T m) (modePeriod T m / units T m)

@@ -3,7 +3,7 @@ ghost use mathlib.Core.Path.{_≡_};
 ghost use Prim.Native.Nat.{_+_, _≤_, _<_};
 ghost use lib.IntN.{ℤ};
 ghost use Rattle.cells.specs.Cell.{rowsIn};
-ghost use Rattle.cells.specs.Limits.{maxPorts, maxModes};
+ghost use Rattle.cells.specs.Limits.{maxPorts};
 ghost use Rattle.program.specs.Tables.{tableAt, tablesIn, modesAt, modeWidth, modeCount};
 ghost use Rattle.program.specs.Units.{units};
 ghost use Rattle.rules.specs.Shape.{InShape};
@@ -17,44 +17,42 @@ ghost use Rattle.rounds.specs.Course.{rowBefore, courseOn, Come};
 ghost use Rattle.rounds.specs.Breaks.{rounded};
 use crate::round;
 use crate::round::Rounded;
-use cells::columns::mode;
 use cells::kinds::Mode;
 use cells::limits::Program;
+use cells::modes;
 use cells::refusals;
-use cells::table;
 use cells::tables;
 use program::multiples;
 use suppliers::Answer;
 
-// Mode m of the tables, whose first block stands at `first`.
+// The round of mode m, whose first block stands at address `first`, and no row of its blocks before row `from` of the part.
 fn one_mode(
     tables: &[&[i32]; Program::TABLES],
     windows: &[i32],
     part: &[i32],
     sensors: usize,
     supplier: usize,
-    m: usize,
+    m: Mode,
     first: usize,
     from: usize,
 ) -> Rounded
     requires { ⌜ InShape (now tables) ⌝ }
     requires { ⌜ sensors ≤ maxPorts ⌝ }
     requires { ⌜ Periods (tableAt (now tables) modesAt) ⌝ }
-    requires { ⌜ m < rowsIn modeWidth (tableAt (now tables) modesAt) ⌝ }
-    requires { ⌜ m < maxModes ⌝ }
+    requires { ⌜ m .0 < rowsIn modeWidth (tableAt (now tables) modesAt) ⌝ }
     requires { ⌜ first + mostMode ≤ mostCode ⌝ }
     requires { ⌜ Sorted (now part) ⌝ }
     requires { ⌜ Come (now part) supplier first from ⌝ }
     ensures { λ r. ⌜ ((start : ℤ) → let T = tablesIn (now (tables .entry)) start in
-        r ≡ rounded (worstBreak (courseOn T (now (windows .entry)) (now (part .entry)) supplier sensors m first) nothing)
-        (first + sizeIn T sensors m) (rowBefore (now (part .entry)) supplier (unitCounts T sensors m) first from (units T m))) ⌝ }
+        r ≡ rounded (worstBreak (courseOn T (now (windows .entry)) (now (part .entry)) supplier sensors (m .0) first) nothing)
+        (first + sizeIn T sensors (m .0))
+        (rowBefore (now (part .entry)) supplier (unitCounts T sensors (m .0)) first from (units T (m .0)))) ⌝ }
 {
     let invocations = tables[tables::INVOCATIONS];
     let updates = tables[tables::UPDATES];
     let switches = tables[tables::SWITCHES];
-    let own = Mode::of(m);
-    let u = multiples::units(invocations, updates, switches, own);
-    let period = table::field(tables[tables::MODES], mode::WIDTH, m, mode::PERIOD);
+    let u = multiples::units(invocations, updates, switches, m);
+    let period = modes::period(tables[tables::MODES], m);
     let ticks = period / u;
     round::one_round(
         tables,
@@ -62,7 +60,7 @@ fn one_mode(
         part,
         sensors,
         supplier,
-        own,
+        m,
         u,
         ticks,
         first,
@@ -70,7 +68,7 @@ fn one_mode(
     )
 }
 
-// All modes: 14 or 15 with mode and tick, or 0, 0 and 0.
+// The answer on all modes, reached or not: 14 or 15 with mode and tick of the first break, or 0, 0 and 0.
 pub fn answer(
     tables: &[&[i32]; Program::TABLES],
     windows: &[i32],
@@ -86,22 +84,23 @@ pub fn answer(
         let course = courseOn T (now (windows .entry)) (now (part .entry)) supplier sensors in
         r ≡ answerFrom (λ m. worstBreak (course m (startIn T sensors m)) nothing) (modeCount T) 0) ⌝ }
 {
-    let n = tables[tables::MODES].len() / mode::WIDTH;
+    let modes = tables[tables::MODES];
     let mut at = 1;
     let mut row = 0;
-    let mut m = 0;
-    while m < n {
+    let mut m = Mode::of(0);
+    while modes::declared(modes, m) {
         let run = one_mode(tables, windows, part, sensors, supplier, m, at, row);
         if refusals::ACCEPTED < run.number {
+            let mode = m.word() as usize;
             return Answer {
                 number: run.number,
-                mode: m,
+                mode: mode,
                 tick: run.tick,
             };
         }
         at = run.at;
         row = run.row;
-        m += 1;
+        m = m.next();
     }
     Answer {
         number: refusals::ACCEPTED,

@@ -18,7 +18,7 @@ use cells::tables;
 use layout::counts;
 use runs::block;
 
-// 14 or 15 with the tick of the round, then 0 and 0; or 0 and 0, and the address and the schedule's row at which the next mode begins.
+// What a round comes to: 14 or 15 with its tick, then 0 and 0; or 0 and 0, and the address and schedule row where the next mode begins.
 pub struct Rounded {
     pub number: usize,
     pub tick: usize,
@@ -26,7 +26,7 @@ pub struct Rounded {
     pub row: usize,
 }
 
-// Mode m, which has u units of so many ticks; its first block stands at `first`, and no row of its blocks before `from`.
+// The round of mode m, of u units of so many ticks; its first block stands at `first`, and no row of its blocks before row `from`.
 pub fn one_round(
     tables: &[&[i32]; Program::TABLES],
     windows: &[i32],

@@ -11,14 +11,14 @@ use cells::limits::Program;
 use cells::refusals;
 use runs::unit;
 
-// 14 or 15 with the tick of the round; or 0, and the remaining times after the unit.
+// What a unit comes to: 14 or 15 with the tick of the round; or 0, and the remaining times after the unit.
 pub struct Ended {
     pub number: usize,
     pub tick: usize,
     pub left: [usize; Program::TASKS],
 }
 
-// Unit k of mode m, which has u units of so many ticks, from these remaining times. The block is a part of the schedule.
+// Runs unit k of mode m, which has u units of so many ticks, from these remaining times; its block is a part of the schedule.
 pub fn one_unit(
     tasks: &[i32],
     invocations: &[i32],

@@ -30,56 +30,56 @@ use Rattle.rules.proofs.Modes.{invocations-bar, updates-bar}
 use Rattle.rules.proofs.Timing.{units-bar, whole-bars, units-few, ticks-some}
 
 module _ (T : Tables) (a : programVerdict T ≡ acceptedNumber) where
-  -- no test of the verdict applies
+  -- of an accepted program no test of the verdict applies
   pub accepted-clear : Clear (shapeRefusal ∷ tableRefusals) T
   unfolding programVerdict
   accepted-clear = verdict-clear (shapeRefusal ∷ tableRefusals) T (omega arith) a
 
-  -- rule 1: whole rows within the limits, and some mode
+  -- an accepted program keeps rule 1: whole rows within the limits, and some mode
   pub accepted-shaped : Shaped T
   accepted-shaped = shape-bars T .ok (accepted-clear .0)
 
-  -- rule 2: fields in range, and names that name something
+  -- an accepted program keeps rule 2: fields in range, and names that name something
   pub accepted-fields : Fields T
   accepted-fields = fields-bar T .ok (accepted-clear .1 .0)
 
-  -- rule 3: task ports
+  -- an accepted program keeps rule 3, of task ports
   pub accepted-task-ports : TaskPorts T
   accepted-task-ports = task-ports-bar T .ok (accepted-clear .1 .1 .0)
 
-  -- rule 4: copies
+  -- an accepted program keeps rule 4, of copies
   pub accepted-copies : Copies T
   accepted-copies = copies-bar T .ok (accepted-clear .1 .1 .1 .0)
 
-  -- rule 5: mode ports
+  -- an accepted program keeps rule 5, of mode ports
   pub accepted-mode-ports : ModePorts T
   accepted-mode-ports = mode-ports-bar T .ok (accepted-clear .1 .1 .1 .1 .0)
 
-  -- rule 6: invocations
+  -- an accepted program keeps rule 6, of invocations
   pub accepted-invocations : Invocations T
   accepted-invocations = invocations-bar T .ok (accepted-clear .1 .1 .1 .1 .1 .0)
 
-  -- rule 7: updates
+  -- an accepted program keeps rule 7, of updates
   pub accepted-updates : Updates T
   accepted-updates = updates-bar T .ok (accepted-clear .1 .1 .1 .1 .1 .1 .0)
 
-  -- rule 9: units that fit
+  -- an accepted program keeps rule 9: units within the limit that divide the period
   pub accepted-units-fit : UnitsFit T
   accepted-units-fit = units-bar T .ok (accepted-clear .1 .1 .1 .1 .1 .1 .1 .1 .0)
 
-  -- rule 10: task frequencies that are multiples of switch frequencies
+  -- an accepted program keeps rule 10: task frequencies are multiples of the switch frequencies of their mode
   pub accepted-whole : Whole T
   accepted-whole = whole-bars T .ok (accepted-clear .1 .1 .1 .1 .1 .1 .1 .1 .1 .0)
 
-  -- a declared mode has no more units than the limit
+  -- a declared mode of an accepted program has no more units than the limit
   pub accepted-units : (m : ℕ) → m < modeCount T → units T m ≤ maxUnits
   accepted-units = units-few T accepted-units-fit
 
-  -- they are the least common multiple of its frequencies
+  -- the units of a declared mode of an accepted program are the least common multiple of its frequencies
   pub accepted-least : (m : ℕ) → m < modeCount T → Units T m (units T m)
   accepted-least m l = units-least T m (accepted-units m l)
 
-  -- a unit of a declared mode has a tick, and no more than the longest period
+  -- a unit of a declared mode of an accepted program has a tick, and no more than the longest period
   pub accepted-ticks : (m : ℕ) → m < modeCount T → InRange (ticksOf (mode (programOf T) m)) maxPeriod
   accepted-ticks m l =
       let e : ticksOf (mode (programOf T) m) ≡ modePeriod T m / units T m = ap ticksOf (mode-row T m l) in (
@@ -87,14 +87,14 @@ module _ (T : Tables) (a : programVerdict T ≡ acceptedNumber) where
         omega (arith, e, div-le-self (modePeriod T m) (units T m), accepted-fields .modes m l .1),
       )
 
-  -- a task that is due in a declared mode is declared
+  -- a task that is due in a declared mode of an accepted program is declared
   pub due-declared : (m k t : ℕ) → m < modeCount T → member t (dueTasks (mode (programOf T) m) k) ≡ true → t < taskCount T
   due-declared m k t l e =
       let w = has-tasks T m k l (λ x. t ≡ x) .0 (member-says t (dueTasks (mode (programOf T) m) k) .yes e) in
       omega (arith, w .4, accepted-fields .invocations (w .0) (w .1) .task)
 
--- a call that is lent the tables and more, refuses for its own shape and then as the program's verdict does, and is not refused:
--- the program is accepted
+-- a program is accepted where a call that is lent its tables and more, and refuses for its own shape and then as the program's
+-- verdict does, is not refused
 pub lent-accepted : {A : Type 0} (tables : A → Tables) (shape : A → Bool) (more : List (Refusal A)) (x : A)
     → (shape x ≡ false → shapeBad (tables x) ≡ false)
     → verdict ((record { number = shapeRefused; applies = shape } ∷ map (within tables) tableRefusals) ++ more) x ≡ acceptedNumber

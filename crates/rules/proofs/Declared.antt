@@ -1,5 +1,4 @@
 -- Numbers 3, 4 and 5: each row against the rows before it, as a claim of any two rows.
--- Assumes nothing.
 use Prim.Native.Nat.{ℕ, _<_}
 use mathlib.Core.Path.{_≡_, refl, sym, ap, subst, _∙_}
 use native.Mathlib.Omega.{arith}
@@ -9,14 +8,15 @@ use Rattle.theory.proofs.Search.{bars-any}
 use Rattle.program.specs.Tables.{Tables, sensor, actuator, input, output, taskPortCount, taskPortTask, taskPortPort, modePortPort}
 use Rattle.program.specs.Sets.{isTaskPort, modePortAt, copiesTo, OfKind, Input}
 use Rattle.program.proofs.Sets.{kind-says}
-use Rattle.rules.specs.Declared.{samePort, taskPortClash, taskPortsBad, TaskPorts, copyClash, copiesBad, Copies, modePortClash, modePortsBad, ModePorts}
+use Rattle.rules.specs.Declared.{samePort, taskPortClash, taskPortsBad, TaskPorts, copyClash, copiesBad, Copies, modePortClash}
+use Rattle.rules.specs.Declared.{modePortsBad, ModePorts}
 
 module _ (T : Tables) where
-  -- an input port stands in one row
+  -- an input port stands in one row of the task ports
   abbrev InputsOnce : Type 0
   InputsOnce = (k : ℕ) → k < taskPortCount T → OfKind T input (taskPortPort T k) → (j : ℕ) → j < k → taskPortPort T j ≡ taskPortPort T k → ⊥
 
-  -- so it is of one task
+  -- an input port that stands in one row is of one task
   one-task : InputsOnce → {t u p : ℕ} → Input T t p → Input T u p → t ≡ u
   one-task once {p} a b =
       let e : a .1 .0 ≡ b .1 .0 = omega (arith, later a b, later b a) in
@@ -25,7 +25,7 @@ module _ (T : Tables) where
       later : {t u : ℕ} (a : Input T t p) (b : Input T u p) → a .1 .0 < b .1 .0 → ⊥
       later (q, (j, h, (s, e))) (r, (k, i, (t, f))) l = once k i (subst (OfKind T input) (sym f) r) j l (e ∙ sym f)
 
-  -- and where it is of one task, a second row would repeat the first
+  -- an input port that is of one task stands in one row, since a second would repeat the first
   one-row : TaskPorts T → InputsOnce
   one-row s k h q j l e =
       let first : Input T (taskPortTask T j) (taskPortPort T k) = (q, (j, omega arith, (refl, e))) in

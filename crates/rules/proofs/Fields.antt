@@ -1,5 +1,4 @@
 -- Number 2: each row's test bars what the row must be.
--- Assumes nothing.
 use Prim.Native.Nat.{ℕ}
 use mathlib.Core.Logic.{_⊎_}
 use Rattle.theory.specs.Claim.{Says, Bars}
@@ -7,9 +6,12 @@ use Rattle.theory.proofs.Bools.{says-or, says-as, says-lt, says-le, says-eq, ba
 use Rattle.theory.proofs.Search.{bars-any}
 use Rattle.theory.proofs.Order.{leZ-says}
 use Rattle.cells.proofs.Ints.{eqZ-says}
-use Rattle.cells.proofs.Readings.{missing-says, value-says}
+use Rattle.readings.proofs.Readings.{missing-says, value-says}
 use Rattle.program.specs.Tables.{Tables, portKind, output, guardLow, guardHigh, modeCount, startMode}
-use Rattle.rules.specs.Fields.{inRange, InRange, portBad, taskBad, TaskFits, taskPortBad, TaskPortFits, alwaysFits, AlwaysFits, intervalFits, IntervalFits, driverBad, copyBad, CopyFits, modeBad, modePortBad, ModePortFits, invocationBad, InvocationFits, updateBad, UpdateFits, switchBad, SwitchFits, startBad, fieldsBad, Fields}
+use Rattle.rules.specs.Fields.{inRange, InRange, portBad, taskBad, TaskFits, taskPortBad, TaskPortFits, alwaysFits, AlwaysFits}
+use Rattle.rules.specs.Fields.{intervalFits, IntervalFits, driverBad, copyBad, CopyFits, modeBad, modePortBad, ModePortFits}
+use Rattle.rules.specs.Fields.{invocationBad, InvocationFits, updateBad, UpdateFits, switchBad, SwitchFits, startBad, fieldsBad}
+use Rattle.rules.specs.Fields.{Fields}
 
 -- the test of a range says that the number is in it
 pub range-says : (n limit : ℕ) → Says (inRange n limit) (InRange n limit)
@@ -17,23 +19,27 @@ unfolding inRange
 range-says n limit = says-le 1 n and says-le n limit
 
 module _ (T : Tables) where
+  -- the test of a task row bars a supplier and a worst-case time in range
   task-bars : (t : ℕ) → Bars (taskBad T t) (TaskFits T t)
   unfolding taskBad
   task-bars t =
       bars-as (bars-not (says-lt _ _ and range-says _ _))
       (λ (s, w). record { supplier = s; worst = w }) (λ f. (f .supplier, f .worst))
 
+  -- the test of a task port row bars a task and a port that are declared
   task-port-bars : (k : ℕ) → Bars (taskPortBad T k) (TaskPortFits T k)
   unfolding taskPortBad
   task-port-bars k =
       bars-as (bars-not (says-lt _ _ and says-lt _ _)) (λ (t, p). record { task = t; port = p }) (λ f. (f .task, f .port))
 
+  -- the test of a guard that always holds says that its fields are 0
   always-says : (d : ℕ) → Says (alwaysFits T d) (AlwaysFits T d)
   unfolding alwaysFits
   always-says d =
       says-as (says-eq _ _ and says-eq _ _ and eqZ-says _ _ and eqZ-says _ _)
       (λ (((k, p), l), h). record { kind = k; port = p; low = l; high = h }) (λ f. (((f .kind, f .port), f .low), f .high))
 
+  -- the test of a guard by an interval says that it has a port and values low ≤ high
   interval-says : (d : ℕ) → Says (intervalFits T d) (IntervalFits T d)
   unfolding intervalFits
   interval-says d =
@@ -43,21 +49,25 @@ module _ (T : Tables) where
       (λ (((((l, h), k), p), o), m). record { low = l; high = h; kind = k; port = p; ordered = o; missing = m })
       (λ f. (((((f .low, f .high), f .kind), f .port), f .ordered), f .missing))
 
+  -- the test of a driver row bars a guard of either kind
   driver-bars : (d : ℕ) → Bars (driverBad T d) (AlwaysFits T d ⊎ IntervalFits T d)
   unfolding driverBad
   driver-bars d = bars-not (says-or (always-says d) (interval-says d))
 
+  -- the test of a copy row bars a driver, a source and a destination that are declared
   copy-bars : (c : ℕ) → Bars (copyBad T c) (CopyFits T c)
   unfolding copyBad
   copy-bars c =
       bars-as (bars-not (says-lt _ _ and says-lt _ _ and says-lt _ _))
       (λ ((d, s), t). record { driver = d; source = s; destination = t }) (λ f. ((f .driver, f .source), f .destination))
 
+  -- the test of a mode port row bars a mode and a port that are declared
   mode-port-bars : (k : ℕ) → Bars (modePortBad T k) (ModePortFits T k)
   unfolding modePortBad
   mode-port-bars k =
       bars-as (bars-not (says-lt _ _ and says-lt _ _)) (λ (m, p). record { mode = m; port = p }) (λ f. (f .mode, f .port))
 
+  -- the test of an invocation row bars a mode, a task and a driver that are declared, and a frequency in range
   invocation-bars : (i : ℕ) → Bars (invocationBad T i) (InvocationFits T i)
   unfolding invocationBad
   invocation-bars i =
@@ -65,12 +75,14 @@ module _ (T : Tables) where
       (λ (((m, f), t), d). record { mode = m; frequency = f; task = t; driver = d })
       (λ f. (((f .mode, f .frequency), f .task), f .driver))
 
+  -- the test of an update row bars a mode and a driver that are declared, and a frequency in range
   update-bars : (i : ℕ) → Bars (updateBad T i) (UpdateFits T i)
   unfolding updateBad
   update-bars i =
       bars-as (bars-not (says-lt _ _ and range-says _ _ and says-lt _ _))
       (λ ((m, f), d). record { mode = m; frequency = f; driver = d }) (λ f. ((f .mode, f .frequency), f .driver))
 
+  -- the test of a switch row bars a mode, a target mode and a driver that are declared, and a frequency in range
   switch-bars : (i : ℕ) → Bars (switchBad T i) (SwitchFits T i)
   unfolding switchBad
   switch-bars i =

@@ -10,13 +10,16 @@ use borrow.Author.Tests.{eqb-false}
 use Rattle.theory.specs.Claim.{Bars}
 use Rattle.theory.proofs.Bools.{says-or, says-eq, bars-not, bars-says, bars-and, bars-as, _or_}
 use Rattle.theory.proofs.Search.{bars-any, bars-below}
-use Rattle.program.specs.Tables.{Tables, sensor, actuator, driverCount, guardKind, guardPort, guardLow, guardHigh, kindAlways, invocationMode, invocationTask, invocationDriver, updateMode, updateDriver, switchCount, switchMode, switchTarget, switchDriver}
+use Rattle.program.specs.Tables.{Tables, sensor, actuator, driverCount, guardKind, guardPort, guardLow, guardHigh, kindAlways}
+use Rattle.program.specs.Tables.{invocationMode, invocationTask, invocationDriver, updateMode, updateDriver, switchCount, switchMode}
+use Rattle.program.specs.Tables.{switchTarget, switchDriver}
 use Rattle.program.specs.Guard.{always, interval, guardOf}
 use Rattle.program.specs.Sets.{Sensor, ModePort}
 use Rattle.program.proofs.Sets.{kind-says, input-says, output-says, mode-port-says, destination-says}
 use Rattle.program.proofs.Guards.{Sound, meet-says}
 use Rattle.rules.specs.Fields.{Fields}
-use Rattle.rules.specs.Modes.{unreadable, invocationClash, invocationWrong, invocationsBad, Invocations, updateClash, updateWrong, updatesBad, Updates, switchClash, switchWrong, switchesBad, Switches}
+use Rattle.rules.specs.Modes.{unreadable, invocationClash, invocationWrong, invocationsBad, Invocations, updateClash, updateWrong}
+use Rattle.rules.specs.Modes.{updatesBad, Updates, switchClash, switchWrong, switchesBad, Switches}
 use Rattle.rules.proofs.Some.{some-output-bars, some-input-bars, some-port-bars, some-source-bars, some-destination-bars}
 
 module _ (T : Tables) where

@@ -1,5 +1,4 @@
 -- Number 1: a slice's test bars whole rows within the limit.
--- Assumes nothing.
 use Prim.Native.Nat.{ℕ, _/_, _%_, _≤_}
 use mathlib.Core.Path.{_≡_, ap, _∙_}
 use mathlib.Core.Bool.{false}
@@ -15,12 +14,12 @@ use Rattle.cells.specs.Limits.{maxPorts, maxTasks}
 use Rattle.program.specs.Tables.{Tables, tablesIn, portWidth, portCount, taskWidth, taskCount, modeCount}
 use Rattle.rules.specs.Shape.{badSlice, badLength, WholeRows, shapeBad, Shaped, InShape}
 
--- whole rows within the limit are no more rows than it
+-- whole rows within a limit are no more rows than the limit
 pub whole-few : {A : Type 0} (width limit : ℕ) (t : List A) → WholeRows width limit t → length t / width ≤ limit
 whole-few width limit t (n, e, l) =
     let few : length t / width ≤ n = div-le-of-le-mul width (omega (arith, mul-comm n width)) in omega arith
 
--- a bad slice bars whole rows within the limit
+-- the test of a bad slice bars whole rows within the limit
 pub slice-bars : {A : Type 0} (width limit : ℕ) (t : List A) → Bars (badSlice width limit t) (WholeRows width limit t)
 unfolding badSlice
 slice-bars width limit t =
@@ -28,7 +27,7 @@ slice-bars width limit t =
     (λ g. (length t / width, omega (arith, div-add-mod' (length t) width), g .1))
     (λ w. (ap (λ (k : ℕ). k % width) (w .1) ∙ mul-mod-left (w .0) width, whole-few width limit t w))
 
--- a bad length bars the length asked for
+-- the test of a bad length bars the length that is asked for
 pub length-bars : {A : Type 0} (n : ℕ) (t : List A) → Bars (badLength n t) (length t ≡ n)
 unfolding badLength
 length-bars n t = bars-not (says-eq (length t) n)
@@ -66,11 +65,11 @@ shape-bars T =
     (λ s.
     ((((((((((s .ports, s .tasks), s .task-ports), s .drivers), s .copies), s .modes), s .mode-ports), s .invocations), s .updates), s .switches), λ e. omega (arith, s .some-mode)))
 
--- no more ports than the limit
+-- tables in shape have no more ports than the limit
 pub ports-few : (T : Tables) → Shaped T → portCount T ≤ maxPorts
 ports-few T s = whole-few portWidth maxPorts (T .ports) (s .ports)
 
--- no more tasks than the limit
+-- tables in shape have no more tasks than the limit
 pub tasks-few : (T : Tables) → Shaped T → taskCount T ≤ maxTasks
 tasks-few T s = whole-few taskWidth maxTasks (T .tasks) (s .tasks)
 

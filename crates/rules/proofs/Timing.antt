@@ -1,5 +1,5 @@
 -- Numbers 9 and 10: the units of a mode, and task frequencies against switch frequencies.
--- Assumes nothing: a frequency 0 has no multiple from 1 to the limit.
+-- A frequency 0 has no multiple from 1 to the limit.
 use Prim.Native.Nat.{ℕ, zero, suc, _*_, _/_, _≤_, _<_, _∣_}
 use mathlib.Core.Path.{_≡_}
 use native.Mathlib.Nat.{div-mul-cancel, zero-mul}
@@ -25,15 +25,15 @@ module _ (T : Tables) where
       (λ (l, d). record { count = units T m; is-least = units-least T m l; few = l; divides = d })
       (λ u. let e = units-only T m (u .count) (u .is-least) (u .few) in (rw e (u .few), rw e (u .divides)))) _
 
-  -- so the units of a declared mode are within the limit
+  -- where rule 9 holds, the units of a declared mode are within the limit
   pub units-few : UnitsFit T → (m : ℕ) → m < modeCount T → units T m ≤ maxUnits
   units-few w m l = let u = w m l in rw (units-only T m (u .count) (u .is-least) (u .few)) (u .few)
 
-  -- and divide its period
+  -- where rule 9 holds, the units of a declared mode divide its period
   pub units-divide : UnitsFit T → (m : ℕ) → m < modeCount T → units T m ∣ modePeriod T m
   units-divide w m l = let u = w m l in rw (units-only T m (u .count) (u .is-least) (u .few)) (u .divides)
 
-  -- so a unit of it has a tick
+  -- where rules 2 and 9 hold, a unit of a declared mode has a tick
   pub ticks-some : Fields T → UnitsFit T → (m : ℕ) → m < modeCount T → 1 ≤ modePeriod T m / units T m
   ticks-some f w m l = go (modePeriod T m / units T m) (div-mul-cancel _ (units-divide w m l))
     where

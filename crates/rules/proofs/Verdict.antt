@@ -1,5 +1,5 @@
 -- The verdict on a program is the number of the first rule that is broken, and 0 exactly where every rule holds.
--- Assumes nothing: that the bounds of a guard are of 32 bits, which `Meet` in number 8 asks for, is part of number 2.
+-- That the bounds of a guard are of 32 bits, which `Meet` in number 8 asks for, is part of number 2.
 use Prim.Native.Nat.{ℕ, _<_}
 use mathlib.Core.Path.{_≡_, refl}
 use mathlib.Core.Bool.{Bool}
@@ -9,8 +9,8 @@ use native.Mathlib.Omega.{arith}
 use Rattle.theory.specs.Claim.{Bars}
 use Rattle.theory.specs.Verdict.{acceptedNumber, First, Keep}
 use Rattle.theory.proofs.Verdict.{Barred, verdict-first, first-none}
-use Rattle.cells.specs.Reading.{Inside, noReading}
-use Rattle.cells.proofs.Readings.{missing-only-its-own}
+use Rattle.readings.specs.Reading.{Inside, noReading}
+use Rattle.readings.proofs.Readings.{missing-only-its-own}
 use Rattle.program.specs.Tables.{Tables, driverCount, guardKind, guardLow, guardHigh, kindInterval}
 use Rattle.rules.specs.Fields.{Fields}
 use Rattle.rules.specs.Verdict.{shapeRefusal, tableRefusals, programVerdict, programRules}
@@ -20,12 +20,12 @@ use Rattle.rules.proofs.Declared.{task-ports-bar, copies-bar, mode-port
 use Rattle.rules.proofs.Modes.{invocations-bar, updates-bar, switches-bar}
 use Rattle.rules.proofs.Timing.{units-bar, whole-bars}
 
--- a test that bars its rule, and the rest where the rule holds
+-- one step of the list of rules: a test that bars its rule, and what is known of the rest where the rule holds
 next : {n : ℕ} {b : Bool} {G R : Type 0} → Bars b G → (G → R) → (n ≡ n) × Bars b G × (G → R)
 next s rest = (refl, s, rest)
 
 module _ (T : Tables) where
-  -- each test bars the rule of its number where the earlier rules hold
+  -- each test of the verdict bars the rule of its number where the earlier rules hold
   pub program-barred : Barred (shapeRefusal ∷ tableRefusals) programRules T
   program-barred =
       next (shape-bars T) λ shaped.
@@ -39,7 +39,7 @@ module _ (T : Tables) where
       next (units-bar T) λ units.
       next (whole-bars T) λ whole. tt
 
-  -- the verdict is the number of the first rule that is broken
+  -- the verdict on a program is the number of the first rule that is broken
   pub program-first : (n : ℕ) → (programVerdict T ≡ n) ↔ First programRules T n
   unfolding programVerdict
   program-first n = verdict-first (shapeRefusal ∷ tableRefusals) programRules T program-barred n

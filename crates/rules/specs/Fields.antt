@@ -1,5 +1,5 @@
 -- Number 2: a field of the program's tables, or the start mode, is out of range or names nothing.
--- A row's test says "bad"; beside it stands what a row must be. Assumes nothing.
+-- A row's test says "bad"; beside it stands what a row must be.
 use Prim.Native.Nat.{ℕ, _≤_, _<_}
 use mathlib.Core.Path.{_≡_}
 use mathlib.Core.Bool.{Bool, not, _&&_, _||_}
@@ -10,46 +10,53 @@ use lib.Signed.{leZ}
 use Rattle.theory.specs.Search.{any}
 use Rattle.theory.specs.Order.{_≤Z_}
 use Rattle.cells.specs.Cell.{eqZ}
-use Rattle.cells.specs.Reading.{isMissing, noReading, Value, isValue}
+use Rattle.readings.specs.Reading.{isMissing, noReading, Value, isValue}
 use Rattle.cells.specs.Limits.{suppliers, maxWorst, maxPeriod, maxFrequency}
-use Rattle.program.specs.Tables.{Tables, portCount, portKind, output, taskCount, taskSupplier, taskWorst, taskPortCount, taskPortTask, taskPortPort}
+use Rattle.program.specs.Tables.{Tables, portCount, portKind, output, taskCount, taskSupplier, taskWorst, taskPortCount, taskPortTask}
+use Rattle.program.specs.Tables.{taskPortPort}
 use Rattle.program.specs.Tables.{driverCount, guardKind, guardPort, guardLow, guardHigh, kindAlways, kindInterval, copyCount, copyDriver}
-use Rattle.program.specs.Tables.{copySource, copyDestination, modeCount, modePeriod, modePortCount, modePortMode, modePortPort, invocationCount}
-use Rattle.program.specs.Tables.{invocationMode, invocationFrequency, invocationTask, invocationDriver, updateCount, updateMode, updateFrequency, updateDriver, switchCount}
+use Rattle.program.specs.Tables.{copySource, copyDestination, modeCount, modePeriod, modePortCount, modePortMode, modePortPort}
+use Rattle.program.specs.Tables.{invocationCount}
+use Rattle.program.specs.Tables.{invocationMode, invocationFrequency, invocationTask, invocationDriver, updateCount, updateMode}
+use Rattle.program.specs.Tables.{updateFrequency, updateDriver, switchCount}
 use Rattle.program.specs.Tables.{switchMode, switchFrequency, switchTarget, switchDriver, startMode}
 
--- from 1 to the limit
+-- the test that a number is from 1 to the limit
 unfoldable pub inRange : ℕ → ℕ → Bool
 inRange n limit = leb 1 n && leb n limit
 
+-- a number is from 1 to the limit
 abbrev pub InRange : ℕ → ℕ → Type 0
 InRange n limit = (1 ≤ n) × (n ≤ limit)
 
--- ports: kind 0 to 3
+-- the kind of port p is none of 0 to 3
 unfoldable pub portBad : Tables → ℕ → Bool
 portBad T p = ltb output (portKind T p)
 
--- tasks: supplier 0..7, worst-case time 1..4,096
+-- the supplier of task t is none of 0..7, or its worst-case time none of 1..4,096
 unfoldable pub taskBad : Tables → ℕ → Bool
 taskBad T t = not (ltb (taskSupplier T t) suppliers && inRange (taskWorst T t) maxWorst)
 
+-- the supplier of task t is one of 0..7, and its worst-case time one of 1..4,096
 pub record TaskFits (T : Tables) (t : ℕ) : Type 0 where
   pub supplier : taskSupplier T t < suppliers
   pub worst : InRange (taskWorst T t) maxWorst
 
--- task ports: a task, a port
+-- row k of the task ports names no task or no port
 unfoldable pub taskPortBad : Tables → ℕ → Bool
 taskPortBad T k = not (ltb (taskPortTask T k) (taskCount T) && ltb (taskPortPort T k) (portCount T))
 
+-- row k of the task ports names a task and a port
 pub record TaskPortFits (T : Tables) (k : ℕ) : Type 0 where
   pub task : taskPortTask T k < taskCount T
   pub port : taskPortPort T k < portCount T
 
--- drivers: kind 0 has 0 in its other three fields; kind 1 has a port, values low ≤ high, and low no reading only if high is too. (A
--- number of a lent slice is always a value; what is none is out of range, so that the rules speak of every list of numbers.)
+-- driver d has guard kind 0, always, and 0 in its other three fields
 unfoldable pub alwaysFits : Tables → ℕ → Bool
 alwaysFits T d = eqb (guardKind T d) kindAlways && eqb (guardPort T d) 0 && eqZ (guardLow T d) (pos 0) && eqZ (guardHigh T d) (pos 0)
 
+-- driver d has guard kind 1, interval, with a port, values low ≤ high, and low no reading only if high is too. (A number of a
+-- lent slice is always a value; what is none is out of range, so that the rules speak of every list of numbers.)
 unfoldable pub intervalFits : Tables → ℕ → Bool
 intervalFits T d =
     isValue (guardLow T d)
@@ -59,15 +66,18 @@ intervalFits T d =
     && leZ (guardLow T d) (guardHigh T d)
     && (not (isMissing (guardLow T d)) || isMissing (guardHigh T d))
 
+-- neither kind of guard fits the row of driver d
 unfoldable pub driverBad : Tables → ℕ → Bool
 driverBad T d = not (alwaysFits T d || intervalFits T d)
 
+-- the row of driver d is a guard that always holds: 0 in every field
 pub record AlwaysFits (T : Tables) (d : ℕ) : Type 0 where
   pub kind : guardKind T d ≡ kindAlways
   pub port : guardPort T d ≡ 0
   pub low : guardLow T d ≡ pos 0
   pub high : guardHigh T d ≡ pos 0
 
+-- the row of driver d is a guard by an interval: a port, values low ≤ high, and low no reading only if high is too
 pub record IntervalFits (T : Tables) (d : ℕ) : Type 0 where
   pub low : Value (guardLow T d)
   pub high : Value (guardHigh T d)
@@ -76,28 +86,30 @@ pub record IntervalFits (T : Tables) (d : ℕ) : Type 0 where
   pub ordered : guardLow T d ≤Z guardHigh T d
   pub missing : guardLow T d ≡ noReading → guardHigh T d ≡ noReading
 
--- copies: a driver, a source, a destination
+-- row c of the copies names no driver, or no port as its source or its destination
 unfoldable pub copyBad : Tables → ℕ → Bool
 copyBad T c = not (ltb (copyDriver T c) (driverCount T) && ltb (copySource T c) (portCount T) && ltb (copyDestination T c) (portCount T))
 
+-- row c of the copies names a driver, and ports as its source and its destination
 pub record CopyFits (T : Tables) (c : ℕ) : Type 0 where
   pub driver : copyDriver T c < driverCount T
   pub source : copySource T c < portCount T
   pub destination : copyDestination T c < portCount T
 
--- modes: period 1..4,096
+-- the period of mode m is none of 1..4,096
 unfoldable pub modeBad : Tables → ℕ → Bool
 modeBad T m = not (inRange (modePeriod T m) maxPeriod)
 
--- mode ports: a mode, a port
+-- row k of the mode ports names no mode or no port
 unfoldable pub modePortBad : Tables → ℕ → Bool
 modePortBad T k = not (ltb (modePortMode T k) (modeCount T) && ltb (modePortPort T k) (portCount T))
 
+-- row k of the mode ports names a mode and a port
 pub record ModePortFits (T : Tables) (k : ℕ) : Type 0 where
   pub mode : modePortMode T k < modeCount T
   pub port : modePortPort T k < portCount T
 
--- invocations: a mode, a frequency 1..64, a task, a driver
+-- row i of the invocations names no mode, task or driver, or its frequency is none of 1..64
 unfoldable pub invocationBad : Tables → ℕ → Bool
 invocationBad T i =
     not
@@ -106,22 +118,28 @@ invocationBad T i =
     && ltb (invocationTask T i) (taskCount T)
     && ltb (invocationDriver T i) (driverCount T))
 
+-- row i of the invocations names a mode, a task and a driver, and its frequency is one of 1..64
 pub record InvocationFits (T : Tables) (i : ℕ) : Type 0 where
   pub mode : invocationMode T i < modeCount T
   pub frequency : InRange (invocationFrequency T i) maxFrequency
   pub task : invocationTask T i < taskCount T
   pub driver : invocationDriver T i < driverCount T
 
--- updates: a mode, a frequency, a driver
+-- row i of the updates names no mode or driver, or its frequency is none of 1..64
 unfoldable pub updateBad : Tables → ℕ → Bool
-updateBad T i = not (ltb (updateMode T i) (modeCount T) && inRange (updateFrequency T i) maxFrequency && ltb (updateDriver T i) (driverCount T))
+updateBad T i =
+    not
+    (ltb (updateMode T i) (modeCount T)
+    && inRange (updateFrequency T i) maxFrequency
+    && ltb (updateDriver T i) (driverCount T))
 
+-- row i of the updates names a mode and a driver, and its frequency is one of 1..64
 pub record UpdateFits (T : Tables) (i : ℕ) : Type 0 where
   pub mode : updateMode T i < modeCount T
   pub frequency : InRange (updateFrequency T i) maxFrequency
   pub driver : updateDriver T i < driverCount T
 
--- switches: a mode, a frequency, a target mode, a driver
+-- row i of the switches names no mode, target mode or driver, or its frequency is none of 1..64
 unfoldable pub switchBad : Tables → ℕ → Bool
 switchBad T i =
     not
@@ -130,15 +148,18 @@ switchBad T i =
     && ltb (switchTarget T i) (modeCount T)
     && ltb (switchDriver T i) (driverCount T))
 
+-- row i of the switches names a mode, a target mode and a driver, and its frequency is one of 1..64
 pub record SwitchFits (T : Tables) (i : ℕ) : Type 0 where
   pub mode : switchMode T i < modeCount T
   pub frequency : InRange (switchFrequency T i) maxFrequency
   pub target : switchTarget T i < modeCount T
   pub driver : switchDriver T i < driverCount T
 
+-- the start mode is not declared
 unfoldable pub startBad : Tables → Bool
 startBad T = leb (modeCount T) (startMode T)
 
+-- number 2: some row of a table is bad, or the start mode is not declared
 unfoldable pub fieldsBad : Tables → Bool
 fieldsBad T =
     any (portBad T) (portCount T)
@@ -153,6 +174,7 @@ fieldsBad T =
     || any (switchBad T) (switchCount T)
     || startBad T
 
+-- rule 2: every row of every table is in range and names what is declared, and so does the start mode
 pub record Fields (T : Tables) : Type 0 where
   pub ports : (p : ℕ) → p < portCount T → portKind T p ≤ output
   pub tasks : (t : ℕ) → t < taskCount T → TaskFits T t

@@ -1,5 +1,5 @@
 -- Number 1: a slice is not whole rows, exceeds its limit, or there is no mode.
--- Tested on just the slices that a call is lent: a call that is lent more asks more. Assumes nothing.
+-- Tested on just the slices that a call is lent: a call that is lent more asks more.
 use Prim.Native.Nat.{ℕ, _*_, _/_, _%_, _≤_}
 use mathlib.Core.Path.{_≡_}
 use mathlib.Core.Bool.{Bool, false, not, _||_}
@@ -14,18 +14,19 @@ use Rattle.program.specs.Tables.{Tables, tablesIn, portWidth, taskWidth, taskPo
 use Rattle.program.specs.Tables.{modePortWidth, invocationWidth, updateWidth, switchWidth}
 
 module _ {A : Type 0} where
-  -- not whole rows of this width, or more of them than the limit
+  -- a slice is not whole rows of this width, or has more rows than the limit
   unfoldable pub badSlice : ℕ → ℕ → List A → Bool
   badSlice width limit t = not (eqb (length t % width) 0) || ltb limit (length t / width)
 
-  -- whole rows, and no more than the limit
+  -- a slice is whole rows of this width, and no more than the limit
   abbrev pub WholeRows : ℕ → ℕ → List A → Type 0
   WholeRows width limit t = (n : ℕ) × (length t ≡ n * width) × (n ≤ limit)
 
-  -- a slice by port or by task has exactly this length
+  -- a slice by port or by task does not have this length
   unfoldable pub badLength : ℕ → List A → Bool
   badLength n t = not (eqb (length t) n)
 
+-- number 1: some table is not whole rows or has too many, or there is no mode
 unfoldable pub shapeBad : Tables → Bool
 shapeBad T =
     badSlice portWidth maxPorts (T .ports)
@@ -40,6 +41,7 @@ shapeBad T =
     || badSlice switchWidth maxSwitches (T .switches)
     || eqb (modeCount T) 0
 
+-- rule 1: every table is whole rows within its limit, and there is some mode
 pub record Shaped (T : Tables) : Type 0 where
   pub ports : WholeRows portWidth maxPorts (T .ports)
   pub tasks : WholeRows taskWidth maxTasks (T .tasks)
@@ -53,6 +55,6 @@ pub record Shaped (T : Tables) : Type 0 where
   pub switches : WholeRows switchWidth maxSwitches (T .switches)
   pub some-mode : 1 ≤ modeCount T
 
--- tables that are lent have their shape, whatever the start mode
+-- the tables that are lent have their shape, whatever the start mode
 abbrev pub InShape : List (RefT (List ℤ)) → Type 0
-InShape lent = (start : ℤ) → shapeBad (tablesIn lent start) ≡ false
+InShape slices = (start : ℤ) → shapeBad (tablesIn slices start) ≡ false

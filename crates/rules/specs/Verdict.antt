@@ -1,5 +1,4 @@
 -- The verdict on a program: numbers 1 to 10, the first that applies; and the rules of the same numbers, as claims.
--- Assumes nothing.
 use Prim.Native.Nat.{ℕ}
 use mathlib.Core.List.{List, [], _∷_}
 use Rattle.theory.specs.Verdict.{Refusal, verdict, Rule}
@@ -12,10 +11,11 @@ use Rattle.rules.specs.Declared.{taskPortsBad, TaskPorts, copiesBad, Cop
 use Rattle.rules.specs.Modes.{invocationsBad, Invocations, updatesBad, Updates, switchesBad, Switches}
 use Rattle.rules.specs.Timing.{unitsBad, UnitsFit, wholeBad, Whole}
 
+-- number 1, asked first, since the other numbers are of tables in shape
 abbrev pub shapeRefusal : Refusal Tables
 shapeRefusal = record { number = shapeRefused; applies = shapeBad }
 
--- 2 to 10: what every call asks of the program after its own 1
+-- numbers 2 to 10: what every call asks of the program after its own number 1
 abbrev pub tableRefusals : List (Refusal Tables)
 tableRefusals =
     record { number = fieldsRefused; applies = fieldsBad }
@@ -29,10 +29,11 @@ tableRefusals =
     ∷ record { number = wholeRefused; applies = wholeBad }
     ∷ []
 
+-- the verdict on a program: the first of numbers 1 to 10 that applies, and 0 where none does
 unfoldable pub programVerdict : Tables → ℕ
 programVerdict T = verdict (shapeRefusal ∷ tableRefusals) T
 
--- the rules
+-- the rules of numbers 2 to 10, as claims
 abbrev pub tableRules : List (Rule Tables)
 tableRules =
     record { number = fieldsRefused; holds = Fields }
@@ -46,5 +47,6 @@ tableRules =
     ∷ record { number = wholeRefused; holds = Whole }
     ∷ []
 
+-- the rules of numbers 1 to 10, as claims
 abbrev pub programRules : List (Rule Tables)
 programRules = record { number = shapeRefused; holds = Shaped } ∷ tableRules

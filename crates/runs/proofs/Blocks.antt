@@ -21,59 +21,60 @@ use Rattle.theory.proofs.Bools.{is-true, is-false, says-lt, says-le, says-eq, s
 use Rattle.cells.specs.Cell.{cellAt, numAt, nameAt}
 use Rattle.runs.specs.Tick.{Row}
 use Rattle.runs.specs.declared.block.Span.{Span}
-use Rattle.runs.specs.Schedule.{scheduleWidth, kindColumn, taskColumn, timeoutColumn, scheduleCount, rowSupplier, rowAddress, rowOf, rowsOf, blockOf, Sorted, reaches, Behind, reach, found, spanOf}
+use Rattle.runs.specs.Schedule.{scheduleWidth, kindColumn, taskColumn, timeoutColumn, scheduleCount, rowSupplier, rowAddress, rowOf}
+use Rattle.runs.specs.Schedule.{rowsOf, blockOf, Sorted, reaches, Behind, reach, found, spanOf}
 
 module _ (S : List ℤ) (from s a : ℕ) where
-  -- a search that meets a row that reaches ends there
+  -- a search for supplier s and address a ends at a row that does not come before them
   pub reach-here : from < scheduleCount S → reaches S s a from ≡ true → reach S from s a ≡ from
   unfolding reach
   reach-here l e =
       let z : scheduleCount S - from ≡ suc (scheduleCount S - (from + 1)) = omega arith in
       ap (λ (k : ℕ). firstFrom (reaches S s a) k from) z ∙ from-here (reaches S s a) (scheduleCount S - (from + 1)) from e
 
-  -- it passes over one that does not
+  -- a search for supplier s and address a passes over a row that comes before them
   pub reach-next : from < scheduleCount S → reaches S s a from ≡ false → reach S from s a ≡ reach S (from + 1) s a
   unfolding reach
   reach-next l e =
       let z : scheduleCount S - from ≡ suc (scheduleCount S - (from + 1)) = omega arith in
       ap (λ (k : ℕ). firstFrom (reaches S s a) k from) z ∙ from-next (reaches S s a) (scheduleCount S - (from + 1)) from e
 
-  -- past the last row it stays
+  -- a search that begins past the last row stays where it is
   pub reach-end : scheduleCount S ≤ from → reach S from s a ≡ from
   unfolding reach firstFrom
   reach-end l =
       let z : scheduleCount S - from ≡ 0 = omega arith in ap (λ (k : ℕ). firstFrom (reaches S s a) k from) z
 
-  -- what it finds
+  -- a search for supplier s and address a finds the first row that does not come before them
   reach-finds : Finds (reaches S s a) (scheduleCount S - from) from (reach S from s a)
   unfolding reach
   reach-finds = finds (reaches S s a) (scheduleCount S - from) from
 
--- what the test of a row says
+-- what the test whether row i comes before supplier s and address a says
 reaches-says : (S : List ℤ) (s a i : ℕ) → Says (reaches S s a i) ((s < rowSupplier S i) ⊎ ((rowSupplier S i ≡ s) × (a ≤ rowAddress S i)))
 unfolding reaches
 reaches-says S s a i = says-or (says-lt s (rowSupplier S i)) (says-and (says-eq (rowSupplier S i) s) (says-le a (rowAddress S i)))
 
--- a row behind an address is behind a later one
+-- a row that comes before supplier s and address a comes before s and a higher address
 behind-one : (S : List ℤ) (s a b i : ℕ) → a ≤ b → reaches S s a i ≡ false → reaches S s b i ≡ false
 behind-one S s a b i l e =
     is-false (reaches-says S s b i) (λ w. reaches-says S s a i .no e (⊎-elim inl (λ v. inr (v .0, omega arith)) w))
 
--- before the first row nothing stands
+-- no row stands before row 0
 pub behind-none : (S : List ℤ) (s a : ℕ) → Behind S s a 0
 behind-none S s a i l = absurd (omega arith)
 
--- what is behind an address is behind a later one
+-- rows that come before supplier s and address a come before s and a higher address
 pub behind-later : (S : List ℤ) (s a b n : ℕ) → a ≤ b → Behind S s a n → Behind S s b n
 behind-later S s a b n l h i k = behind-one S s a b i l (h i k)
 
--- what is behind a supplier is behind any address of a later one
+-- rows that come before a supplier come before any address of a later one
 pub behind-supplier : (S : List ℤ) (s r a b n : ℕ) → s < r → Behind S s a n → Behind S r b n
 behind-supplier S s r a b n l h i k =
     is-false (reaches-says S r b i)
     (λ w. reaches-says S s a i .no (h i k) (inl (⊎-elim (λ v. omega arith) (λ v. omega arith) w)))
 
--- the rows found are rows of the schedule, from `from` on
+-- the rows found as the block are rows of the schedule, from `from` on
 pub found-within : (S : List ℤ) (s a from : ℕ) → from ≤ scheduleCount S
     → (from ≤ found S from s a .begin) × (found S from s a .begin ≤ found S from s a .end) × (found S from s a .end ≤ scheduleCount S)
 found-within S s a from l =
@@ -81,7 +82,7 @@ found-within S s a from l =
     let e = reach-finds S (reach S from s a) s (suc a) in
     (b .low, e .low, omega (arith, l, b .high, e .high))
 
--- the rows before the end of those found are behind the next address
+-- the rows before the end of the rows found come before the next address
 pub found-behind : (S : List ℤ) (s a from : ℕ) → Behind S s a from → Behind S s (suc a) (found S from s a .end)
 found-behind S s a from h i l = go (decLt i from) (decLt i (reach S from s a))
   where
@@ -90,7 +91,7 @@ found-behind S s a from h i l = go (decLt i from) (decLt i (reach S from s a))
     go (no u) (yes v) = behind-one S s a (suc a) i (omega arith) (reach-finds S from s a .least i (omega arith) v)
     go (no u) (no v) = reach-finds S (reach S from s a) s (suc a) .least i (omega arith) l
 
--- in a sorted schedule, from a row that reaches on, all do
+-- in a sorted schedule, the rows after one that does not come before s and a do not come before them either
 sorted-reaches : (S : List ℤ) (s a j i : ℕ) → Sorted S → j ≤ i → i < scheduleCount S → reaches S s a j ≡ true → reaches S s a i ≡ true
 sorted-reaches S s a j i o l u e = ⊎-elim (λ q. subst (λ (k : ℕ). reaches S s a k ≡ true) q e) later (eq-or-lt-of-le l)
   where
@@ -106,14 +107,14 @@ sorted-reaches S s a j i o l u e = ⊎-elim (λ q. subst (λ (k : ℕ). reaches 
                 let q : rowSupplier S i ≡ s = omega (arith, v .0, o .by-supplier j i m u) in
                 inr (q, omega (arith, v .1, o .by-address j i m u (v .0 ∙ sym q)))
 
--- row i is of the block
+-- row i is of the block of supplier s at address a
 abbrev isOf : List ℤ → ℕ → ℕ → ℕ → Bool
 isOf S s a i = eqb (rowSupplier S i) s && eqb (rowAddress S i) a
 
 is-of-says : (S : List ℤ) (s a i : ℕ) → Says (isOf S s a i) ((rowSupplier S i ≡ s) × (rowAddress S i ≡ a))
 is-of-says S s a i = says-and (says-eq (rowSupplier S i) s) (says-eq (rowAddress S i) a)
 
--- a row that does not reach the address is not of the block, nor is one that reaches the next
+-- a row that comes before supplier s and address a is not of their block, nor is one that does not come before the next address
 before-block : (S : List ℤ) (s a i : ℕ) → reaches S s a i ≡ false → isOf S s a i ≡ false
 before-block S s a i e =
     is-false (is-of-says S s a i) (λ w. reaches-says S s a i .no e (inr (w .0, omega (arith, w .1))))
@@ -123,7 +124,7 @@ after-block S s a i e =
     is-false (is-of-says S s a i)
     (λ w. ⊎-elim (λ v. omega (arith, v, w .0)) (λ v. omega (arith, v .1, w .1)) (reaches-says S s (suc a) i .yes e))
 
--- a row that reaches the address and not the next is
+-- a row that comes before the next address, and not before supplier s and address a, is of their block
 in-block : (S : List ℤ) (s a i : ℕ) → reaches S s a i ≡ true → reaches S s (suc a) i ≡ false → isOf S s a i ≡ true
 in-block S s a i e f =
     is-true (is-of-says S s a i)
@@ -152,7 +153,7 @@ module _ (S : List ℤ) (at : Span) where
       let o = part-cell i timeoutColumn l (omega arith) in
       simp (k, t, o) refl
 
-  -- so many rows
+  -- the part of a span has as many rows as the span
   part-count : at .begin ≤ at .end → at .end ≤ scheduleCount S → scheduleCount (spanOf S at) ≡ at .end - at .begin
   part-count l m =
       let f = div-mul-le-self (length S) scheduleWidth in
@@ -176,7 +177,7 @@ module _ (S : List ℤ) (s a from : ℕ) (o : Sorted S) (l : from ≤ scheduleCo
       go i v (yes k) = h i k
       go i v (no k) = reach-finds S from s a .least i (omega arith) (omega arith)
 
-  -- those found are
+  -- the rows found are of the block
   all-found : those (isOf S s a) (rowOf S) (end - begin) begin ≡ each (rowOf S) (end - begin) begin
   all-found = those-each (isOf S s a) (rowOf S) (end - begin) begin go
     where
@@ -186,7 +187,7 @@ module _ (S : List ℤ) (s a from : ℕ) (o : Sorted S) (l : from ≤ scheduleCo
           let r = reach-finds S from s a .has (omega (arith, w .1, w .2)) in
           in-block S s a i (sorted-reaches S s a begin i o u (omega (arith, w .1, w .2)) r) (reach-finds S begin s (suc a) .least i u (omega arith))
 
-  -- those after them are not
+  -- the rows after those found are not of the block
   none-after : those (isOf S s a) (rowOf S) (scheduleCount S - end) end ≡ []
   none-after = those-none (isOf S s a) (rowOf S) (scheduleCount S - end) end go
     where
@@ -196,7 +197,7 @@ module _ (S : List ℤ) (s a from : ℕ) (o : Sorted S) (l : from ≤ scheduleCo
           let r = reach-finds S begin s (suc a) .has (omega (arith, w .1, w .2)) in
           after-block S s a i (sorted-reaches S s (suc a) end i o u (omega (arith, w .1, w .2)) r)
 
-  -- so the block is what was found
+  -- the block is the rows found
   block-is : blockOf S s a ≡ each (rowOf S) (end - begin) begin
   block-is =
       let pass : ℕ → ℕ → List Row = those (isOf S s a) (rowOf S) in

@@ -9,13 +9,13 @@ use native.Mathlib.Omega.{arith}
 use lib.ListN.{length, length-set}
 use Rattle.theory.specs.Lists.{member}
 use Rattle.theory.proofs.Lists.{every-all}
-use Rattle.runs.specs.Tick.{dispatch, Row, Act, rest, run, after, Place, doing, runsIn}
-use Rattle.runs.specs.Round.{Course, Choice, begin, going, before, alone, Good}
+use Rattle.runs.specs.Tick.{dispatch, Row, Act, rest, work, after, Place, doing, runsIn}
+use Rattle.runs.specs.Round.{Course, Choice, unitStart, going, before, alone, Good}
 use Rattle.runs.specs.Dominated.{OwnRows, AtMost, Dominated}
 use Rattle.runs.proofs.Tick.{tick-runs, tick-dominated}
 use Rattle.runs.proofs.Released.{release-length, release-below}
 
--- all jobs
+-- all jobs are asked about
 abbrev pub Any : ℕ → Type 0
 Any j = Unit {0}
 
@@ -23,23 +23,23 @@ Any j = Unit {0}
 pub any-rows : (block : List Row) → OwnRows Any block
 any-rows block = every-all (λ x. x .kind ≡ dispatch → Any (x .job)) block (λ x k. tt)
 
--- ticks keep the number of jobs
+-- what runs in a tick keeps the number of remaining times
 after-length : (a : Act) (r : List ℕ) → length (after a r) ≡ length r
 after-length rest r = refl
-after-length (run j) r = simp length-set
+after-length (work j) r = simp length-set
 
 going-length : (block : List Row) (s : Place) (e : ℕ) → length (going block s e .left) ≡ length (s .left)
 going-length block s zero = refl
 going-length block s (suc e) = after-length (doing block e (going block s e)) (going block s e .left) ∙ going-length block s e
 
--- the number of jobs is that of the start
+-- before every unit there are as many remaining times as at the start of the run
 pub before-length : (C : Course) (c : Choice) (left : List ℕ) (k : ℕ) → length (before C c left k) ≡ length left
 before-length C c left zero = refl
 before-length C c left (suc k) =
-    going-length (C .block k) (begin C c k (before C c left k)) (C .ticks)
+    going-length (C .block k) (unitStart C c k (before C c left k)) (C .ticks)
     ∙ release-length (C .released k) (c k) (before C c left k) ∙ before-length C c left k
 
--- the choice c is at most d for every release
+-- choice c gives every release at most the time that choice d gives
 abbrev pub Shorter : Course → Choice → Choice → Type 0
 Shorter C c d = (k j : ℕ) → member j (C .released k) ≡ true → c k j ≤ d k j
 
@@ -50,12 +50,12 @@ module _ (Own : ℕ → Type 0) where
   going-dominated block s d o h zero = h
   going-dominated block s d o h (suc e) = tick-dominated Own block e (going block s e) (going block d e) o (going-dominated block s d o h e)
 
-  -- one unit, from any remaining times at its start of which one are at most the other
+  -- a unit keeps the shorter run dominated, from any remaining times at its start of which its own are at most the other's
   pub unit-dominated : (C : Course) (c d : Choice) (k : ℕ) → OwnRows Own (C .block k)
       → ((j : ℕ) → Own j → member j (C .released k) ≡ true → c k j ≤ d k j) → (r q : List ℕ) → length r ≤ length q → AtMost Own r q
-      → (e : ℕ) → Dominated Own (C .block k) e (going (C .block k) (begin C c k r) e) (going (C .block k) (begin C d k q) e)
+      → (e : ℕ) → Dominated Own (C .block k) e (going (C .block k) (unitStart C c k r) e) (going (C .block k) (unitStart C d k q) e)
   unit-dominated C c d k o shorter r q as-many less =
-      going-dominated (C .block k) (begin C c k r) (begin C d k q) o
+      going-dominated (C .block k) (unitStart C c k r) (unitStart C d k q) o
       (record {
         further = omega arith;
         owes = release-below Own (C .released k) (C .released k) (c k) (d k) r q (λ j w. refl) shorter (λ j w m l. omega arith) less;
@@ -84,7 +84,7 @@ module _ (Own : ℕ → Type 0) where
     pub alone-runs : (k e : ℕ) → runsIn (C .block k) e (alone C c r k e) ≡ true → runsIn (C .block k) e (alone C d q k e) ≡ true
     alone-runs k e = tick-runs Own (C .block k) e (alone C c r k e) (alone C d q k e) (own k) (alone-dominated k e)
 
--- where the longer run keeps to its windows and terminations, the shorter does
+-- where the longer run keeps to its windows and terminations, the shorter keeps to them too
 pub good-shorter : (C : Course) (c d : Choice) → Shorter C c d → (r q : List ℕ) → length r ≤ length q → AtMost Any r q → Good C d q → Good C c r
 good-shorter C c d shorter r q as-many less g = record {
   inside = λ k e l n h. g .inside k e l n (alone-runs Any C own c d shorter r q as-many less k e h);

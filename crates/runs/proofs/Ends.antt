@@ -1,5 +1,5 @@
 -- Where the window that has a tick ends: beyond the tick, and up to there every tick is in a window. So a run that asks for the
--- end once need not ask at each tick. Assumes nothing.
+-- end once need not ask at each tick.
 use Prim.Native.Nat.{ℕ, _≤_, _<_}
 use mathlib.Core.Path.{_≡_, refl, ap, subst, _∙_}
 use mathlib.Core.Bool.{Bool, true, false, not, _&&_}
@@ -11,25 +11,25 @@ use borrow.Author.Tests.{leb-false, le-leb, lt-leb}
 use Rattle.theory.specs.Search.{first}
 use Rattle.theory.proofs.Bools.{is-true}
 use Rattle.theory.proofs.Search.{Passed, any-at, first-found, lowest}
-use Rattle.runs.specs.Windows.{windowCount, winTo, windowHas, inWindow, windowEnd, openUntil}
+use Rattle.runs.specs.Windows.{windowCount, windowTo, windowHas, inWindow, windowEnd, openUntil}
 use Rattle.runs.proofs.Windows.{window-has-says, in-window-says}
 
 module _ (W : List ℤ) (s m : ℕ) where
-  end-some : (t : ℕ) → inWindow W s m t ≡ true → winTo W (first (windowHas W s m t) (windowCount W)) ≡ windowEnd W s m t
+  end-some : (t : ℕ) → inWindow W s m t ≡ true → windowTo W (first (windowHas W s m t) (windowCount W)) ≡ windowEnd W s m t
   unfolding windowEnd
   end-some t h = rw (h, windowEnd)
 
-  -- no window has the tick
+  -- where no window has the tick, the end is 0
   pub end-none : (t : ℕ) → inWindow W s m t ≡ false → 0 ≡ windowEnd W s m t
   unfolding windowEnd
   end-none t h = rw (h, windowEnd)
 
-  -- the first window that has it is row i
+  -- where row i is the first window that has the tick, the end is that of row i
   pub end-found : (t i : ℕ) → Passed (windowHas W s m t) (windowCount W) i → i < windowCount W → windowHas W s m t i ≡ true
-      → winTo W i ≡ windowEnd W s m t
+      → windowTo W i ≡ windowEnd W s m t
   unfolding inWindow
   end-found t i p l h =
-      ap (winTo W) (first-found (windowHas W s m t) (windowCount W) i p l h)
+      ap (windowTo W) (first-found (windowHas W s m t) (windowCount W) i p l h)
       ∙ end-some t (any-at (windowHas W s m t) (windowCount W) i l h)
 
   -- from tick t on, every tick before `until` is in a window
@@ -42,7 +42,7 @@ module _ (W : List ℤ) (s m : ℕ) where
   end-beyond t h =
       let (i, w) = lowest (windowHas W s m t) (windowCount W) h in
       let (own, has) = window-has-says W s m t i .yes (w .has) in
-      let e : winTo W i ≡ windowEnd W s m t = end-found t i (record { in-range = omega (arith, w .below); clear = w .clear }) (w .below) (w .has) in (
+      let e : windowTo W i ≡ windowEnd W s m t = end-found t i (record { in-range = omega (arith, w .below); clear = w .clear }) (w .below) (w .has) in (
         omega (arith, has .not-over),
         λ u l o. is-true (in-window-says W s m u) (record {
           row = i;
@@ -52,22 +52,22 @@ module _ (W : List ℤ) (s m : ℕ) where
         }),
       )
 
-  -- nothing is asked: it is as far as is known
+  -- where the supplier does not run beyond what is known to be open, no window is asked
   pub until-known : (t until : ℕ) (running : Bool) → (running && leb until t) ≡ false → until ≡ openUntil W s m t until running
   unfolding openUntil
   until-known t until running h = rw (h, openUntil)
 
-  -- the windows are asked
+  -- where the supplier runs beyond what is known to be open, the windows are asked
   pub until-asked : (t until : ℕ) (running : Bool) → (running && leb until t) ≡ true → windowEnd W s m t ≡ openUntil W s m t until running
   unfolding openUntil
   until-asked t until running h = rw (h, openUntil)
 
-  -- what `next`, up to which it is open, says of tick t: it is passed exactly where the supplier runs outside its windows
+  -- what `next`, the tick up to which it is open, says of tick t: a supplier that runs is outside exactly where t is not before `next`
   pub record Told (t : ℕ) (running : Bool) (next : ℕ) : Type 0 where
     pub outside : (running && leb next t) ≡ (running && not (inWindow W s m t))
     pub still : Open t next
 
-  -- as far as it is open says it, if what was known was open
+  -- the tick up to which it is open tells that of tick t, if what was known to be open is open
   pub until-tells : (t until : ℕ) (running : Bool) → Open t until → Told t running (openUntil W s m t until running)
   until-tells t until false h = subst (Told t false) (until-known t until false refl) (record { outside = refl; still = h })
   until-tells t until true h = go (leb until t) refl (inWindow W s m t) refl

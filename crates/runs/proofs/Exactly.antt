@@ -20,12 +20,12 @@ abbrev pub SomeTime : Course → Type 0
 SomeTime C = (k j : ℕ) → member j (C .released k) ≡ true → 1 ≤ C .worst j
 
 -- the worst-case choice is fair
-pub worst-fair : (C : Course) → SomeTime C → WithinWorst C (worstCase C)
-worst-fair C one k j m = (one k j m, omega arith)
+pub worst-suited : (C : Course) → SomeTime C → WithinWorst C (worstCase C)
+worst-suited C one k j m = (one k j m, omega arith)
 
 -- the worst-case run is good exactly where every fair run is
 pub exactly : (C : Course) (left : List ℕ) → SomeTime C → Good C (worstCase C) left ↔ ((c : Choice) → WithinWorst C c → Good C c left)
-exactly C left one = (worst-decides C left, λ h. h (worstCase C) (worst-fair C one))
+exactly C left one = (worst-decides C left, λ h. h (worstCase C) (worst-suited C one))
 
 -- the worst-case run has no break exactly where every fair run is good
 pub no-break-exactly : (C : Course) (left : List ℕ) → SomeTime C → (worstBreak C left ≡ none) ↔ ((c : Choice) → WithinWorst C c → Good C c left)

@@ -1,5 +1,4 @@
 -- The judge gives the first break of a run, and no run has two: the judge's answer is b exactly where b is the first break.
--- Assumes nothing.
 use Prim.Native.Nat.{ℕ, zero, suc, _+_, _*_, _≤_, _<_}
 use mathlib.Core.Path.{_≡_, refl, sym, ap, subst, _∙_}
 use mathlib.Core.Bool.{Bool, true, false}
@@ -14,7 +13,8 @@ use Rattle.theory.specs.Lists.{member}
 use Rattle.theory.proofs.Bools.{clash}
 use Rattle.theory.proofs.Members.{some-one, none-of}
 use Rattle.runs.specs.Tick.{leftOf, Place, runsIn}
-use Rattle.runs.specs.Round.{Course, Choice, begin, going, before, alone, Good, Break, none, outside, late, Ticked, ended, left-at, watched, unfinished, judge, OutsideAt, LateAt, FirstBreak}
+use Rattle.runs.specs.Round.{Course, Choice, unitStart, going, before, alone, Good, Break, none, outside, late, Ticked, ended}
+use Rattle.runs.specs.Round.{left-at, watched, unfinished, judge, OutsideAt, LateAt, FirstBreak}
 use Rattle.runs.proofs.Ticks.{In, Comes, ticks-come}
 
 -- the end of a unit is no later than the start of a later one
@@ -22,14 +22,14 @@ later : (T k i : ℕ) → k < i → k * T + T ≤ i * T
 later T k i h = omega (arith, suc-mul k T, mul-le-mul-right T h)
 
 module _ (C : Course) (c : Choice) (left : List ℕ) where
-  -- no break in the units before k
+  -- the units before unit k have no break
   record Clean (k : ℕ) : Type 0 where
     inside : (i e : ℕ) → i < k → e < C .ticks → runsIn (C .block i) e (alone C c left i e) ≡ true → C .window (i * C .ticks + e) ≡ true
     ends : (i j : ℕ) → i < k → member j (C .ending i) ≡ true → leftOf (alone C c left i (C .ticks) .left) j ≡ 0
 
-  -- ticks of unit k before tick x are inside
+  -- the ticks of unit k before its tick x are inside the windows
   Until : ℕ → ℕ → Type 0
-  Until k x = (y : ℕ) → 0 ≤ y → y < x → In (C .window) (C .block k) (begin C c k (before C c left k)) (k * C .ticks) y
+  Until k x = (y : ℕ) → 0 ≤ y → y < x → In (C .window) (C .block k) (unitStart C c k (before C c left k)) (k * C .ticks) y
 
   clean-outside : (k x : ℕ) → Clean k → Until k x → x ≤ C .ticks → (s : ℕ) → s < k * C .ticks + x → OutsideAt C c left s → ⊥
   unfolding Until
@@ -71,7 +71,7 @@ module _ (C : Course) (c : Choice) (left : List ℕ) where
       ended-unit i j l (yes q) = subst (λ i. member j (C .ending i) ≡ true → leftOf (alone C c left i (C .ticks) .left) j ≡ 0) q (n j)
       ended-unit i j l (no q) = h .ends i j (omega arith)
 
-  -- u units are left, from unit k on, and no break came before
+  -- the judge of the u units from unit k on gives the first break of the run, if none came before
   judge-from : (u k : ℕ) → k + u ≡ C .units → Clean k → FirstBreak C c left (judge C c u k (before C c left k))
   unfolding Until
   judge-from zero k q h = record { inside = λ i e l. h .inside i e (omega arith); ends = λ i j l. h .ends i j (omega arith) }
@@ -80,7 +80,7 @@ module _ (C : Course) (c : Choice) (left : List ℕ) where
       (ticks-come (C .window) (C .block k) s₀ (k * C .ticks) (C .ticks) 0 (k * C .ticks) (omega arith)) (judge-from u (suc k) (omega arith))
     where
       s₀ : Place
-      s₀ = begin C c k (before C c left k)
+      s₀ = unitStart C c k (before C c left k)
 
       go₁ : (b : Bool) → unfinished (C .ending k) (before C c left (suc k)) ≡ b → Until k (C .ticks)
           → (Clean (suc k) → FirstBreak C c left (judge C c u (suc k) (before C c left (suc k))))
@@ -111,7 +111,7 @@ module _ (C : Course) (c : Choice) (left : List ℕ) where
       )
       go (ended r) w ih =
           let z : 0 + C .ticks ≡ C .ticks = omega arith in
-          let e : r ≡ before C c left (suc k) = w .0 ∙ ap (λ m. going (C .block k) (begin C c k (before C c left k)) m .left) z in
+          let e : r ≡ before C c left (suc k) = w .0 ∙ ap (λ m. going (C .block k) (unitStart C c k (before C c left k)) m .left) z in
           subst (λ r. FirstBreak C c left (elim (unfinished (C .ending k) r) [ true ↦ late (suc k * C .ticks) | false ↦ judge C c u (suc k) r ])) (sym e)
           (go₁ (unfinished (C .ending k) (before C c left (suc k))) refl (λ y l m. w .1 y l (omega arith)) ih)
 

@@ -1,5 +1,4 @@
 -- A tick of a block does what 003's words say: the rows in front that are over are passed, and the first that is not runs or waits.
--- Assumes nothing.
 use Prim.Native.Nat.{ℕ, suc, _+_, _-_}
 use mathlib.Core.Path.{_≡_, refl, sym, ap, subst, _∙_}
 use mathlib.Core.Bool.{Bool, true, false, _||_}
@@ -11,22 +10,23 @@ use lib.Seq.{getD-set-other, drop-drop, drop-at}
 use Rattle.theory.specs.Claim.{Says}
 use Rattle.theory.specs.Lists.{Every}
 use Rattle.theory.proofs.Bools.{clash, says-le, says-or, says-as, is-true, is-false}
-use Rattle.runs.specs.Tick.{Kind, dispatch, idle, Row, leftOf, done, reached, skipped, passed, Act, rest, run, does, act, runs, Place, moved, doing, after}
+use Rattle.runs.specs.Tick.{Kind, dispatch, idle, Row, leftOf, nothingToDo, reached, skipped, passed, Act, rest, work, does, act}
+use Rattle.runs.specs.Tick.{runs, Place, moved, doing, after}
 use Rattle.runs.proofs.Tick.{one-less}
 use Rattle.runs.specs.Over.{OverBy, Over, Open, PassedTo, ahead, Runs, Waits, TickSays}
 
 module _ (e : ℕ) (left : List ℕ) where
-  -- the test of a row says that it is over
+  -- the test whether a row is skipped says whether it is over
   pub over-says : (x : Row) → Says (skipped e left x) (Over e left x)
   over-says x = go (x .kind)
     where
-      go : (k : Kind) → Says (reached (x .timeout) e || done k (leftOf left (x .job))) (OverBy k (x .timeout) (leftOf left (x .job)) e)
+      go : (k : Kind) → Says (reached (x .timeout) e || nothingToDo k (leftOf left (x .job))) (OverBy k (x .timeout) (leftOf left (x .job)) e)
       go dispatch =
           says-as (says-or (says-le (x .timeout) e) (says-le (leftOf left (x .job)) 0))
           (⊎-elim inl (λ h. inr (omega (arith, h)))) (⊎-elim inl (λ h. inr (omega (arith, h))))
       go idle = says-as (says-or (says-le (x .timeout) e) (record { yes = λ f. clash {b = false} f refl; no = λ _ b. b })) (⊎-elim (λ h. h) absurd) inl
 
-  -- some rows are passed, and those behind are left
+  -- every list of rows has rows in front that are over, and behind them a first row that is not
   pub split : (rows : List Row) → (behind : List Row) × PassedTo e left rows behind
   split [] = ([], record { before = []; in-order = refl; all-over = tt; not-over = tt })
   split (x ∷ xs) = go (skipped e left x) refl (split xs)
@@ -43,19 +43,19 @@ module _ (e : ℕ) (left : List ℕ) where
       )
       go false h w = (x ∷ xs, record { before = []; in-order = refl; all-over = tt; not-over = over-says x .no h })
 
-  -- those are as many as the definition counts
+  -- the rows in front that are over are as many as the definition counts
   counted : (before behind : List Row) → Every (Over e left) before → Open e left behind → passed (before ++ behind) e left ≡ length before
   counted [] [] a o = refl
   counted [] (x ∷ xs) a o = rw (is-false (over-says x) o, passed)
   counted (y ∷ ys) behind (h, a) o = rw (is-true (over-says y) h, passed) (ap suc (counted ys behind a o))
 
--- what runs at a row
-does-run : (k : Kind) (i j : ℕ) → does k i ≡ run j → (k ≡ dispatch) × (i ≡ j)
+-- a row at which job j runs is a dispatch of j, and one at which nothing runs is an idle
+does-run : (k : Kind) (i j : ℕ) → does k i ≡ work j → (k ≡ dispatch) × (i ≡ j)
 does-run dispatch i j e = (refl, ap number e)
   where
     number : Act → ℕ
     number rest = i
-    number (run n) = n
+    number (work n) = n
 does-run idle i j e = clash {b = true} refl (ap runs (sym e))
 
 does-rest : (k : Kind) (i : ℕ) → does k i ≡ rest → k ≡ idle
@@ -63,7 +63,7 @@ does-rest dispatch i e = clash {b = true} refl (ap runs e)
 does-rest idle i e = refl
 
 module _ (block : List Row) (e : ℕ) (s : Place) where
-  -- where the rows up to these are passed, the position is behind them, and what runs is what the first of these says
+  -- where the rows up to those behind are passed, the position is after them, and what runs is what the first of those behind says
   position : (behind : List Row) (p : PassedTo e (s .left) (ahead block e s) behind) → moved block e s ≡ s .position + length (p .before)
   position behind p =
       ap (λ (rows : List Row). s .position + passed rows e (s .left)) (p .in-order)
@@ -76,16 +76,16 @@ module _ (block : List Row) (e : ℕ) (s : Place) where
       ∙ ap (λ (rows : List Row). act (drop (length (p .before)) rows)) (p .in-order)
       ∙ ap act (drop-at (p .before) behind (length (p .before)) refl)
 
-  runs-exactly : (j : ℕ) → (doing block e s ≡ run j) ↔ Runs block e s j
+  runs-exactly : (j : ℕ) → (doing block e s ≡ work j) ↔ Runs block e s j
   runs-exactly j = (λ h. there (split e (s .left) (ahead block e s)) h, λ w. acts (w .row ∷ w .behind) (w .first) ∙ back w)
     where
-      there : (behind : List Row) × PassedTo e (s .left) (ahead block e s) behind → doing block e s ≡ run j → Runs block e s j
+      there : (behind : List Row) × PassedTo e (s .left) (ahead block e s) behind → doing block e s ≡ work j → Runs block e s j
       there ([], p) h = clash {b = true} refl (ap runs (sym h ∙ acts [] p))
       there (x ∷ xs, p) h =
           let d = does-run (x .kind) (x .job) j (sym (acts (x ∷ xs) p) ∙ h) in
           record { row = x; behind = xs; first = p; dispatches = d .0; of-job = d .1 }
 
-      back : (w : Runs block e s j) → does (w .row .kind) (w .row .job) ≡ run j
+      back : (w : Runs block e s j) → does (w .row .kind) (w .row .job) ≡ work j
       back w = rw (w .dispatches, w .of-job)
 
   rests-exactly : (doing block e s ≡ rest) ↔ (Waits block e s ⊎ Every (Over e (s .left)) (ahead block e s))
@@ -102,14 +102,14 @@ module _ (block : List Row) (e : ℕ) (s : Place) where
       none : Every (Over e (s .left)) (ahead block e s) → doing block e s ≡ rest
       none h = acts [] (record { before = ahead block e s; in-order = sym (append-nil (ahead block e s)); all-over = h; not-over = tt })
 
-  -- the remaining times after what runs
-  worked : (a : Act) (j : ℕ) → a ≡ run j → leftOf (after a (s .left)) j ≡ leftOf (s .left) j - 1
+  -- the job that ran has a tick less to run, and every other as much as before
+  worked : (a : Act) (j : ℕ) → a ≡ work j → leftOf (after a (s .left)) j ≡ leftOf (s .left) j - 1
   worked rest j h = clash {b = true} refl (ap runs (sym h))
-  worked (run i) j h = rw (does-run dispatch i j h .1) (one-less (s .left) j)
+  worked (work i) j h = rw (does-run dispatch i j h .1) (one-less (s .left) j)
 
-  others : (a : Act) (j : ℕ) → (a ≡ run j → ⊥) → leftOf (after a (s .left)) j ≡ leftOf (s .left) j
+  others : (a : Act) (j : ℕ) → (a ≡ work j → ⊥) → leftOf (after a (s .left)) j ≡ leftOf (s .left) j
   others rest j h = refl
-  others (run i) j h = getD-set-other (s .left) i j (leftOf (s .left) i - 1) 0 (λ q. h (ap run (sym q)))
+  others (work i) j h = getD-set-other (s .left) i j (leftOf (s .left) i - 1) 0 (λ q. h (ap work (sym q)))
 
   -- a tick does what 003's words say
   pub tick-says : TickSays block e s

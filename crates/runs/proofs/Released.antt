@@ -54,7 +54,7 @@ module _ (Own : ℕ → Type 0) (ts js : List ℕ) (c d : ℕ → ℕ) (r q : Li
           omega (arith, List·getD-eq-default (release ts c r) 0 {n = j} (omega (arith, release-length ts c r)))
       go false e l = omega (arith, release-out ts c r j e, release-out js d q j (same j o ∙ e), b j o)
 
-  -- the same where each of them is placed in both
+  -- what is owed at most is so after releases of the same jobs with times at most as long, where each of them is placed in both
   pub release-among : ((j : ℕ) → Own j → member j ts ≡ true → (j < length r) × (j < length q)) → AtMost Own r q
       → AtMost Own (release ts c r) (release js d q)
   release-among placed = release-below (λ j o m l. placed j o m .1)

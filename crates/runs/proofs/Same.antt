@@ -16,7 +16,7 @@ release-same (j ∷ js) c d h left =
     ap (λ n. release js c (set left j n)) (h j (member-head j js))
     ∙ release-same js c d (λ i m. h i (member-tail i j js m)) (set left j (d j))
 
--- two courses that differ in no more than the worst-case times
+-- two courses are the same but for the worst-case times
 pub record SameCourse (C D : Course) : Type 0 where
   pub ticks : C .ticks ≡ D .ticks
   pub units : C .units ≡ D .units

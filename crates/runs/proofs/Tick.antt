@@ -11,10 +11,11 @@ use lib.ListN.{length, set, drop}
 use lib.Seq.{getD-set-other, drop-drop}
 use borrow.Author.Tests.{leb-true, leb-false, le-leb}
 use Rattle.theory.proofs.Bools.{clash, neither}
-use Rattle.runs.specs.Tick.{Kind, dispatch, idle, Row, leftOf, done, reached, skipped, passed, Act, rest, run, does, act, runs, after, Place, moved, doing, runsIn, tick}
+use Rattle.runs.specs.Tick.{Kind, dispatch, idle, Row, leftOf, nothingToDo, reached, skipped, passed, Act, rest, work, does, act}
+use Rattle.runs.specs.Tick.{runs, after, Place, moved, doing, runsIn, tick}
 use Rattle.runs.specs.Dominated.{Settled, OwnRows, AtMost, Dominated}
 
--- either test, and so either of two that follow
+-- where one of two tests passes, so does one of two tests that follow from them
 or-more : (a b c d : Bool) → (a ≡ true → c ≡ true) → (b ≡ true → d ≡ true) → (a || b) ≡ true → (c || d) ≡ true
 or-more true b c d f g h = rw (f refl)
 or-more false b true d f g h = refl
@@ -26,7 +27,7 @@ or-right true b c h n = clash {b = true} refl n
 or-right false b c h n = h
 
 -- a row that is done with some time left is done with less
-done-more : (k : Kind) (m n : ℕ) → (k ≡ dispatch → n ≤ m) → done k m ≡ true → done k n ≡ true
+done-more : (k : Kind) (m n : ℕ) → (k ≡ dispatch → n ≤ m) → nothingToDo k m ≡ true → nothingToDo k n ≡ true
 done-more dispatch m n h t = le-leb n 0 (omega (arith, h refl, leb-true m 0 t))
 done-more idle m n h t = t
 
@@ -65,7 +66,7 @@ one-less (n ∷ r) (suc j) = one-less r j
 -- a tick adds to no remaining time
 pub after-less : (a : Act) (r : List ℕ) (j : ℕ) → leftOf (after a r) j ≤ leftOf r j
 after-less rest r j = omega arith
-after-less (run t) r j = go (ℕ-discrete j t)
+after-less (work t) r j = go (ℕ-discrete j t)
   where
     go : Dec (j ≡ t) → leftOf (set r t (leftOf r t - 1)) j ≤ leftOf r j
     go (yes q) = rw q (omega (arith, one-less r t))
@@ -74,44 +75,44 @@ after-less (run t) r j = go (ℕ-discrete j t)
 -- who does not run leaves the remaining times as they are
 pub rests : (a : Act) (left : List ℕ) → runs a ≡ false → left ≡ after a left
 rests rest left e = refl
-rests (run t) left e = clash {b = true} refl e
+rests (work t) left e = clash {b = true} refl e
 
 -- a row that runs a job is a dispatch of it
-does-run : (k : Kind) (j t : ℕ) → does k j ≡ run t → (k ≡ dispatch) × (j ≡ t)
+does-run : (k : Kind) (j t : ℕ) → does k j ≡ work t → (k ≡ dispatch) × (j ≡ t)
 does-run dispatch j t h = (refl, cc h)
 does-run idle j t h = absurd (let z : _≡_ {A = ℕ} 0 1 = cc h in omega arith)
 
 -- the row at which a block is held runs a job that has time left
-busy : (block : List Row) (e : ℕ) (r : List ℕ) (t : ℕ) → act (drop (passed block e r) block) ≡ run t → 1 ≤ leftOf r t
+busy : (block : List Row) (e : ℕ) (r : List ℕ) (t : ℕ) → act (drop (passed block e r) block) ≡ work t → 1 ≤ leftOf r t
 busy [] e r t h = absurd (let z : _≡_ {A = ℕ} 0 1 = cc h in omega arith)
 busy (x ∷ xs) e r t h = go (skipped e r x) refl (busy xs e r t) h
   where
-    go : (b : Bool) → skipped e r x ≡ b → (act (drop (passed xs e r) xs) ≡ run t → 1 ≤ leftOf r t)
-        → act (drop (elim b [ true ↦ suc (passed xs e r) | false ↦ 0 ]) (x ∷ xs)) ≡ run t → 1 ≤ leftOf r t
+    go : (b : Bool) → skipped e r x ≡ b → (act (drop (passed xs e r) xs) ≡ work t → 1 ≤ leftOf r t)
+        → act (drop (elim b [ true ↦ suc (passed xs e r) | false ↦ 0 ]) (x ∷ xs)) ≡ work t → 1 ≤ leftOf r t
     go true p i h = i h
     go false p i h =
         let w = does-run (x .kind) (x .job) t h in
-        let n = neither (reached (x .timeout) e) (done (x .kind) (leftOf r (x .job))) p .1 in
-        let m : done dispatch (leftOf r t) ≡ false = sym (λ i. done (w .0 i) (leftOf r (w .1 i))) ∙ n in
+        let n = neither (reached (x .timeout) e) (nothingToDo (x .kind) (leftOf r (x .job))) p .1 in
+        let m : nothingToDo dispatch (leftOf r t) ≡ false = sym (λ i. nothingToDo (w .0 i) (leftOf r (w .1 i))) ∙ n in
         omega (arith, leb-false (leftOf r t) 0 m)
 
 -- a job runs only while it has time left
-pub tick-busy : (block : List Row) (e : ℕ) (s : Place) (t : ℕ) → doing block e s ≡ run t → 1 ≤ leftOf (s .left) t
+pub tick-busy : (block : List Row) (e : ℕ) (s : Place) (t : ℕ) → doing block e s ≡ work t → 1 ≤ leftOf (s .left) t
 tick-busy block e s t h =
     busy (drop (s .position) block) e (s .left) t
     (ap act (drop-drop (passed (drop (s .position) block) e (s .left)) (s .position) block) ∙ h)
 
--- the jobs that are asked about
 -- a timeout that is reached is reached later too
 reached-later : (timeout e f : ℕ) → e ≤ f → reached timeout e ≡ true → reached timeout f ≡ true
 reached-later timeout e f l h = le-leb timeout f (omega (arith, leb-true timeout e h))
 
+-- `Own` says which jobs are asked about
 module _ (Own : ℕ → Type 0) where
   -- a row that is skipped is skipped later too, and by a run that owes less
   skipped-more : (e f : ℕ) (q r : List ℕ) → e ≤ f → AtMost Own r q → (x : Row) → (x .kind ≡ dispatch → Own (x .job))
       → skipped e q x ≡ true → skipped f r x ≡ true
   skipped-more e f q r l b x o =
-      or-more (reached (x .timeout) e) (done (x .kind) (leftOf q (x .job))) (reached (x .timeout) f) (done (x .kind) (leftOf r (x .job)))
+      or-more (reached (x .timeout) e) (nothingToDo (x .kind) (leftOf q (x .job))) (reached (x .timeout) f) (nothingToDo (x .kind) (leftOf r (x .job)))
       (reached-later (x .timeout) e f l)
       (done-more (x .kind) (leftOf q (x .job)) (leftOf r (x .job)) (λ k. b (x .job) (o k)))
 
@@ -127,23 +128,23 @@ module _ (Own : ℕ → Type 0) where
       go true false f i = clash {b = false} (f refl) refl
       go false b f i = zero-le
 
-  -- what a row of the block runs is such a job
-  own-act : (n : ℕ) (block : List Row) (t : ℕ) → OwnRows Own block → act (drop n block) ≡ run t → Own t
+  -- what a row of the block runs is a job that is asked about
+  own-act : (n : ℕ) (block : List Row) (t : ℕ) → OwnRows Own block → act (drop n block) ≡ work t → Own t
   own-act zero [] t o h = absurd (let z : _≡_ {A = ℕ} 0 1 = cc h in omega arith)
   own-act (suc n) [] t o h = absurd (let z : _≡_ {A = ℕ} 0 1 = cc h in omega arith)
   own-act zero (x ∷ xs) t o h = let w = does-run (x .kind) (x .job) t h in subst Own (w .1) (o .0 (w .0))
   own-act (suc n) (x ∷ xs) t o h = own-act n xs t (o .1) h
 
-  -- what runs is such a job
-  pub tick-job : (block : List Row) (e : ℕ) (s : Place) (t : ℕ) → OwnRows Own block → doing block e s ≡ run t → Own t
+  -- what runs in a tick is a job that is asked about
+  pub tick-job : (block : List Row) (e : ℕ) (s : Place) (t : ℕ) → OwnRows Own block → doing block e s ≡ work t → Own t
   tick-job block e s t o h = own-act (moved block e s) block t o h
 
-  -- what the acts a and b of one tick hand on, where a is of the shorter run
+  -- what acts a and b of one tick hand on, where a is of the shorter run: if a runs, so does b, and a leaves at most as much to run
   record Fit (a b : Act) (r q : List ℕ) : Type 0 where
     runs-too : runs a ≡ true → runs b ≡ true
     owes : AtMost Own (after a r) (after b q)
 
-  -- both stand at one row
+  -- acts of two runs that stand at one row fit
   fit-same : (k : Kind) (t : ℕ) (r q : List ℕ) → AtMost Own r q → Fit (does k t) (does k t) r q
   fit-same dispatch t r q b = record { runs-too = λ h. h; owes = λ j o. go j o (ℕ-discrete j t) }
     where
@@ -152,8 +153,8 @@ module _ (Own : ℕ → Type 0) where
       go j o (no e) = rw (getD-set-other r t j (leftOf r t - 1) 0 e, getD-set-other q t j (leftOf q t - 1) 0 e) (b j o)
   fit-same idle t r q b = record { runs-too = λ h. h; owes = b }
 
-  -- the longer run is held at a row that the shorter one has passed
-  fit-ahead : (k : Kind) (t : ℕ) (r q : List ℕ) (a : Act) → AtMost Own r q → done k (leftOf r t) ≡ true → Fit a (does k t) r q
+  -- acts of two runs fit where the longer is held at a row that the shorter has passed
+  fit-ahead : (k : Kind) (t : ℕ) (r q : List ℕ) (a : Act) → AtMost Own r q → nothingToDo k (leftOf r t) ≡ true → Fit a (does k t) r q
   fit-ahead dispatch t r q a b h = record { runs-too = λ _. refl; owes = λ j o. go j o (ℕ-discrete j t) }
     where
       go : (j : ℕ) → Own j → Dec (j ≡ t) → leftOf (after a r) j ≤ leftOf (set q t (leftOf q t - 1)) j
@@ -161,7 +162,7 @@ module _ (Own : ℕ → Type 0) where
       go j o (no e) = rw (getD-set-other q t j (leftOf q t - 1) 0 e) (omega (arith, after-less a r j, b j o))
   fit-ahead idle t r q a b h = clash {b = false} h refl
 
-  -- one tick, counted from the block's start
+  -- the acts of one tick fit, with both positions counted from the block's start
   fit : (block : List Row) (e : ℕ) (r q : List ℕ) → OwnRows Own block → AtMost Own r q
       → Fit (act (drop (passed block e r) block)) (act (drop (passed block e q) block)) r q
   fit [] e r q o b = record { runs-too = λ h. h; owes = b }
@@ -174,11 +175,11 @@ module _ (Own : ℕ → Type 0) where
       go true p true n i = i
       go true p false n i =
           fit-ahead (x .kind) (x .job) r q _ b
-          (or-right (reached (x .timeout) e) (done (x .kind) (leftOf r (x .job))) (done (x .kind) (leftOf q (x .job))) p n)
+          (or-right (reached (x .timeout) e) (nothingToDo (x .kind) (leftOf r (x .job))) (nothingToDo (x .kind) (leftOf q (x .job))) p n)
       go false p true n i = clash (skipped-more e e q r (omega arith) b x (o .0) n) p
       go false p false n i = fit-same (x .kind) (x .job) r q b
 
-  -- one tick of two places
+  -- the acts of one tick of a place and of the place that dominates it fit
   tick-fit : (block : List Row) (e : ℕ) (s d : Place) → OwnRows Own block → Dominated Own block e s d
       → Fit (doing block e s) (doing block e d) (s .left) (d .left)
   tick-fit block e s d o h =

@@ -1,5 +1,4 @@
 -- What the ticks of a unit come to: all inside, with the remaining times after them, or the first tick that is outside.
--- Assumes nothing.
 use Prim.Native.Nat.{ℕ, zero, suc, _+_, _≤_, _<_}
 use mathlib.Core.Path.{_≡_, refl, ap, subst, _∙_}
 use mathlib.Core.Bool.{Bool, true, false, not, _&&_}
@@ -12,18 +11,18 @@ use Rattle.runs.specs.Round.{going, Ticked, ended, left-at, watched}
 
 -- a unit that begins at s, at tick o of the round
 module _ (window : ℕ → Bool) (block : List Row) (s : Place) (o : ℕ) where
-  -- tick x of the unit is inside
+  -- tick x of the unit is inside the windows
   abbrev pub In : ℕ → Type 0
   In x = runsIn block x (going block s x) ≡ true → window (o + x) ≡ true
 
-  -- what n ticks from tick e come to
+  -- what n ticks of the unit from tick e on come to: all are inside, with these remaining times after them, or this is the first outside
   abbrev pub Comes : ℕ → ℕ → Ticked → Type 0
   Comes n e (ended r) = (r ≡ going block s (e + n) .left) × ((x : ℕ) → e ≤ x → x < e + n → In x)
   Comes n e (left-at t) =
       (x : ℕ) × (x < e + n) × (t ≡ o + x) × (runsIn block x (going block s x) ≡ true) × (window t ≡ false)
       × ((y : ℕ) → e ≤ y → y < x → In y)
 
-  -- one tick inside, and what the others come to
+  -- n + 1 ticks of which the first is inside come to what the n others come to
   one-more : (n e : ℕ) → In e → (a : Ticked) → Comes n (suc e) a → Comes (suc n) e a
   one-more n e i (ended r) h =
       let z : suc e + n ≡ e + suc n = omega arith in

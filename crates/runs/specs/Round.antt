@@ -1,5 +1,5 @@
 -- A unit and a round of one supplier in one mode; the run with given execution times; the worst-case run and its first
--- break. Starts from any unit and any remaining times. Knows no program. Assumes nothing.
+-- break. Starts from any unit and any remaining times. Knows no program.
 use Prim.Native.Nat.{ℕ, zero, suc, _+_, _*_, _≤_, _<_}
 use mathlib.Core.Path.{_≡_}
 use mathlib.Core.Bool.{Bool, true, false, not, _&&_}
@@ -22,34 +22,34 @@ pub record Course : Type 0 where
   pub worst : ℕ → ℕ
   pub window : ℕ → Bool
 
--- a choice of execution times: for each release, by unit and job
+-- a choice of execution times: one for each release, by unit and job
 abbrev pub Choice : Type 0
 Choice = ℕ → ℕ → ℕ
 
--- these jobs are released with these times
+-- the remaining times after some jobs are released with some times
 abbrev pub release : List ℕ → (ℕ → ℕ) → List ℕ → List ℕ
 release [] time left = left
 release (j ∷ js) time left = release js time (set left j (time j))
 
--- a unit begins: at its block's start
-abbrev pub begin : Course → Choice → ℕ → List ℕ → Place
-begin C c k left = record { position = 0; left = release (C .released k) (c k) left }
+-- unit k of a course begins: its jobs are released, and it stands at its block's start
+abbrev pub unitStart : Course → Choice → ℕ → List ℕ → Place
+unitStart C c k left = record { position = 0; left = release (C .released k) (c k) left }
 
--- after e ticks of the block
+-- the place that e ticks of a block come to from a place
 abbrev pub going : List Row → Place → ℕ → Place
 going block s zero = s
 going block s (suc e) = let t = going block s e in tick block e t
 
 -- The run from unit 0 with remaining times `left`, for given execution times.
 module _ (C : Course) (c : Choice) (left : List ℕ) where
-  -- the remaining times before unit k
+  -- the remaining times before unit k of the run
   abbrev pub before : ℕ → List ℕ
   before zero = left
-  before (suc k) = let r = before k in going (C .block k) (begin C c k r) (C .ticks) .left
+  before (suc k) = let r = before k in going (C .block k) (unitStart C c k r) (C .ticks) .left
 
-  -- in unit k after e ticks
+  -- the place of the run in unit k after e ticks
   abbrev pub alone : ℕ → ℕ → Place
-  alone k e = let r = before k in going (C .block k) (begin C c k r) e
+  alone k e = let r = before k in going (C .block k) (unitStart C c k r) e
 
 -- The run keeps to its windows and its terminations.
 pub record Good (C : Course) (c : Choice) (left : List ℕ) : Type 0 where
@@ -77,7 +77,7 @@ pub data Ticked : Type 0 where
   ended : List ℕ → Ticked
   left-at : ℕ → Ticked
 
--- (e ticks of the unit and t of the round have gone by before them)
+-- what n ticks of a block come to under some windows, where e ticks of the unit and t of the round have gone by before them
 abbrev pub watched : (ℕ → Bool) → List Row → ℕ → ℕ → ℕ → Place → Ticked
 watched window block zero e t s = ended (s .left)
 watched window block (suc n) e t s = elim (runsIn block e s && not (window t)) [
@@ -85,23 +85,23 @@ watched window block (suc n) e t s = elim (runsIn block e s && not (window t)) [
   | false ↦ watched window block n (suc e) (suc t) (tick block e s)
 ]
 
--- nothing is running
+-- the remaining times where nothing is running
 abbrev pub nothing : List ℕ
 nothing = replicate maxTasks 0
 
--- the same as the code hands it on
+-- what n ticks of a block come to, as the code hands it on
 abbrev pub toldTicks : Ticked → Watched
 toldTicks (ended left) = record { outside = false; tick = 0; left = left }
 toldTicks (left-at t) = record { outside = true; tick = t; left = nothing }
 
--- some of these jobs is unfinished
+-- some of these jobs is unfinished, by these remaining times
 abbrev pub unfinished : List ℕ → List ℕ → Bool
 unfinished js left = some (λ j. leb 1 (leftOf left j)) js
 
--- u units are left, from unit k on: "at one tick 15 is found before 14"
+-- the first break of a run of which u units are left, from unit k on: "at one tick 15 is found before 14"
 abbrev pub judge : Course → Choice → ℕ → ℕ → List ℕ → Break
 judge C c zero k left = none
-judge C c (suc u) k left = elim (watched (C .window) (C .block k) (C .ticks) 0 (k * C .ticks) (begin C c k left)) [
+judge C c (suc u) k left = elim (watched (C .window) (C .block k) (C .ticks) 0 (k * C .ticks) (unitStart C c k left)) [
   | left-at t ↦ outside t
   | ended r ↦ elim (unfinished (C .ending k) r) [ true ↦ late (suc k * C .ticks) | false ↦ judge C c u (suc k) r ]
 ]
@@ -110,7 +110,7 @@ judge C c (suc u) k left = elim (watched (C .window) (C .block k) (C .ticks) 0 (
 abbrev pub worstBreak : Course → List ℕ → Break
 worstBreak C left = judge C (worstCase C) (C .units) 0 left
 
--- The same, declaratively: this is where the run breaks, and it does not before. (The place of a 14 is the tick, of a 15 the
+-- The first break as claims: here the run breaks, and it does not before. (The place of a 14 is the tick, of a 15 the
 -- termination instant.)
 pub record OutsideAt (C : Course) (c : Choice) (left : List ℕ) (t : ℕ) : Type 0 where
   pub unit : ℕ
@@ -129,7 +129,7 @@ pub record LateAt (C : Course) (c : Choice) (left : List ℕ) (t : ℕ) : Type 0
   pub should-end : member job (C .ending unit) ≡ true
   pub unended : 1 ≤ leftOf (alone C c left unit (C .ticks) .left) job
 
--- b is the first break: the lowest tick, 15 before 14 at one tick
+-- b is the first break of a run: the one at the lowest tick, 15 before 14 at one tick
 abbrev pub FirstBreak : Course → Choice → List ℕ → Break → Type 0
 FirstBreak C c left none = Good C c left
 FirstBreak C c left (outside t) =

@@ -1,5 +1,5 @@
 -- The schedule table: supplier, E address, kind (0 dispatch, 1 idle), task, timeout.
--- "The rows at the address of the executed `future` are the block"; where they stand in a sorted schedule. Assumes nothing.
+-- "The rows at the address of the executed `future` are the block"; where they stand in a sorted schedule.
 use Prim.Native.Nat.{ℕ, suc, _*_, _-_, _≤_, _<_}
 use mathlib.Core.Path.{_≡_}
 use mathlib.Core.Bool.{Bool, true, false, _&&_, _||_}
@@ -16,7 +16,7 @@ use Rattle.runs.specs.declared.block.Span.{Span}
 abbrev pub scheduleWidth : ℕ
 scheduleWidth = 5
 
--- its columns
+-- the columns of the schedule table
 abbrev pub supplierColumn : ℕ
 supplierColumn = 0
 
@@ -66,31 +66,31 @@ rowOf S i = record { kind = kindOf (rowKind S i); job = rowTask S i; timeout = r
 abbrev pub blockOf : List ℤ → ℕ → ℕ → List Row
 blockOf S s a = those (λ i. eqb (rowSupplier S i) s && eqb (rowAddress S i) a) (rowOf S) (scheduleCount S) 0
 
--- sorted by supplier, then address
+-- the rows of a schedule are sorted by supplier, then address
 pub record Sorted (S : List ℤ) : Type 0 where
   pub by-supplier : (j i : ℕ) → j < i → i < scheduleCount S → rowSupplier S j ≤ rowSupplier S i
   pub by-address : (j i : ℕ) → j < i → i < scheduleCount S → rowSupplier S j ≡ rowSupplier S i → rowAddress S j ≤ rowAddress S i
 
--- all rows of a slice that is a block
+-- the rows of a block: all rows of the slice that has it
 abbrev pub rowsOf : List ℤ → List Row
 rowsOf B = each (rowOf B) (scheduleCount B) 0
 
--- row i does not come before supplier s and address a
+-- row i of a schedule does not come before supplier s and address a
 unfoldable pub reaches : List ℤ → ℕ → ℕ → ℕ → Bool
 reaches S s a i = ltb s (rowSupplier S i) || (eqb (rowSupplier S i) s && leb a (rowAddress S i))
 
--- the rows before row n do
+-- the rows before row n of a schedule come before supplier s and address a
 abbrev pub Behind : List ℤ → ℕ → ℕ → ℕ → Type 0
 Behind S s a n = (i : ℕ) → i < n → reaches S s a i ≡ false
 
--- from row `from` on, the first row that does not; the count where all do
+-- the first row from row `from` on that does not come before supplier s and address a; the number of rows where all do
 unfoldable pub reach : List ℤ → ℕ → ℕ → ℕ → ℕ
 reach S from s a = firstFrom (reaches S s a) (scheduleCount S - from) from
 
--- the rows from there up to the first of a higher address
+-- where the block of supplier s at address a stands in a sorted schedule, sought from row `from` on
 abbrev pub found : List ℤ → ℕ → ℕ → ℕ → Span
 found S from s a = let begin = reach S from s a in record { begin = begin; end = reach S begin s (suc a) }
 
--- that part of the slice
+-- the part of a schedule that has the rows of a span
 abbrev pub spanOf : List ℤ → Span → List ℤ
 spanOf S at = take ((at .end - at .begin) * scheduleWidth) (drop (at .begin * scheduleWidth) S)

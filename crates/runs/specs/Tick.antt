@@ -1,5 +1,5 @@
 -- One tick of one supplier's block, after 003. A row is a dispatch of a job or an idle, with a timeout counted from the
--- block's start; a job is a number, its remaining time stands in a list. Knows no program. Assumes nothing.
+-- block's start; a job is a number, its remaining time stands in a list. Knows no program.
 use Prim.Native.Nat.{ℕ, suc, _+_, _-_}
 use mathlib.Core.Bool.{Bool, true, false, _||_}
 use mathlib.Core.List.{List, [], _∷_}
@@ -15,74 +15,74 @@ pub record Row : Type 0 where
   pub job : ℕ
   pub timeout : ℕ
 
--- the remaining time of a job
+-- the remaining time of a job; 0 where there are not so many
 abbrev pub leftOf : List ℕ → ℕ → ℕ
 leftOf left j = getD left j 0
 
--- a dispatch whose job is not running has nothing to do; an idle always waits
-abbrev pub done : Kind → ℕ → Bool
-done dispatch n = leb n 0
-done idle n = false
+-- a row has nothing to do where it is a dispatch whose job is not running; an idle always waits
+abbrev pub nothingToDo : Kind → ℕ → Bool
+nothingToDo dispatch n = leb n 0
+nothingToDo idle n = false
 
 -- a timeout is reached when so many ticks have gone by since the block's start
 abbrev pub reached : ℕ → ℕ → Bool
 reached timeout elapsed = leb timeout elapsed
 
--- "skipped if the task is not running or the timeout is reached"; "idle waits for its timeout"
+-- a row is "skipped if the task is not running or the timeout is reached"; "idle waits for its timeout"
 abbrev pub skipped : ℕ → List ℕ → Row → Bool
-skipped elapsed left x = reached (x .timeout) elapsed || done (x .kind) (leftOf left (x .job))
+skipped elapsed left x = reached (x .timeout) elapsed || nothingToDo (x .kind) (leftOf left (x .job))
 
--- how many rows at the front are passed, on the values at the tick's start
+-- how many rows at the front of a block are passed, on the values at the tick's start
 abbrev pub passed : List Row → ℕ → List ℕ → ℕ
 passed [] elapsed left = 0
 passed (x ∷ xs) elapsed left = elim (skipped elapsed left x) [ true ↦ suc (passed xs elapsed left) | false ↦ 0 ]
 
--- what runs in a tick
+-- what runs in a tick: nothing, or a job
 pub data Act : Type 0 where
   rest : Act
-  run : ℕ → Act
+  work : ℕ → Act
 
 abbrev pub does : Kind → ℕ → Act
-does dispatch j = run j
+does dispatch j = work j
 does idle j = rest
 
--- "after the last row nothing runs"
+-- what runs where these rows are still to do: the job of the first, if it is a dispatch; "after the last row nothing runs"
 abbrev pub act : List Row → Act
 act [] = rest
 act (x ∷ xs) = does (x .kind) (x .job)
 
 abbrev pub runs : Act → Bool
 runs rest = false
-runs (run j) = true
+runs (work j) = true
 
--- the remaining times after a tick of that job
+-- the remaining times after a tick in which that runs
 abbrev pub after : Act → List ℕ → List ℕ
 after rest left = left
-after (run j) left = set left j (leftOf left j - 1)
+after (work j) left = set left j (leftOf left j - 1)
 
 -- a supplier within a unit: rows of its block passed, and the remaining times
 pub record Place : Type 0 where
   pub position : ℕ
   pub left : List ℕ
 
--- "rows are passed only at a tick's start"
+-- the position after a tick's start: "rows are passed only at a tick's start"
 abbrev pub moved : List Row → ℕ → Place → ℕ
 moved block elapsed s = s .position + passed (drop (s .position) block) elapsed (s .left)
 
 abbrev pub doing : List Row → ℕ → Place → Act
 doing block elapsed s = act (drop (moved block elapsed s) block)
 
--- a job runs in the tick
+-- a job runs in a tick of a block, from a place
 abbrev pub runsIn : List Row → ℕ → Place → Bool
 runsIn block elapsed s = runs (doing block elapsed s)
 
 abbrev pub tick : List Row → ℕ → Place → Place
 tick block elapsed s = record { position = moved block elapsed s; left = after (doing block elapsed s) (s .left) }
 
--- the same as the code hands it on: the new position, whether a job runs, and which (0 where none does)
+-- what a tick does, as the code hands it on: the new position, whether a job runs, and which (0 where none does)
 abbrev pub jobOf : Act → ℕ
 jobOf rest = 0
-jobOf (run j) = j
+jobOf (work j) = j
 
 abbrev pub turnOf : ℕ → Act → Turn
 turnOf position a = record { position = position; runs = runs a; job = record { 0 = jobOf a } }
@@ -90,6 +90,6 @@ turnOf position a = record { position = position; runs = runs a; job = record { 
 abbrev pub turn : List Row → ℕ → Place → Turn
 turn block elapsed s = turnOf (moved block elapsed s) (doing block elapsed s)
 
--- the remaining times after it
+-- the remaining times after a turn
 unfoldable pub afterTurn : Turn → List ℕ → List ℕ
 afterTurn t left = elim (t .runs) [ true ↦ set left (t .job .0) (leftOf left (t .job .0) - 1) | false ↦ left ]

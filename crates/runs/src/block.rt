@@ -7,13 +7,13 @@ use cells::columns::schedule;
 use cells::parts;
 use cells::table;
 
-// The rows from `begin` on, before `end`.
+// The rows of a schedule from row `begin` on, before row `end`.
 pub struct Span {
     pub begin: usize,
     pub end: usize,
 }
 
-// Row i does not come before this supplier and address.
+// Row i of a schedule does not come before this supplier and address, in the order of supplier, then address.
 fn reaches(rows: &[i32], supplier: usize, address: usize, i: usize) -> bool
     ensures { λ r. ⌜ r ≡ reaches (now (rows .entry)) supplier address i ⌝ }
 {
@@ -22,7 +22,7 @@ fn reaches(rows: &[i32], supplier: usize, address: usize, i: usize) -> bool
     (supplier < owner) | ((owner == supplier) & (address <= own))
 }
 
-// The first row from `from` on that does not.
+// The first row from row `from` on that does not come before this supplier and address; after the last row where each does.
 fn reach(rows: &[i32], from: usize, supplier: usize, address: usize) -> usize
     ensures { λ r. ⌜ r ≡ reach (now (rows .entry)) from supplier address ⌝ }
 {
@@ -37,7 +37,7 @@ fn reach(rows: &[i32], from: usize, supplier: usize, address: usize) -> usize
     i
 }
 
-// Where the block stands, if no row of it comes before `from`.
+// Where the block of a supplier at an address stands in a sorted schedule, if no row of it comes before row `from`.
 pub fn find(rows: &[i32], from: usize, supplier: usize, address: usize) -> Span
     requires { ⌜ address ≤ greatestWord ⌝ }
     ensures { λ r. ⌜ r ≡ found (now (rows .entry)) from supplier address ⌝ }
@@ -50,7 +50,7 @@ pub fn find(rows: &[i32], from: usize, supplier: usize, address: usize) -> Span
     }
 }
 
-// That part of the schedule.
+// The part of a schedule that has the rows of this span.
 pub fn rows_at(rows: &[i32], at: Span) -> &[i32]
     requires { ⌜ at .begin ≤ at .end ⌝ }
     requires { ⌜ at .end ≤ scheduleCount (now rows) ⌝ }

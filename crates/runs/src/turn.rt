@@ -2,43 +2,33 @@
 ghost use mathlib.Core.Path.{_≡_};
 ghost use Prim.Native.Nat.{_+_};
 ghost use lib.ListN.{drop};
-ghost use Rattle.runs.specs.Tick.{leftOf, skipped, passed, act, turnOf, turn, afterTurn};
+ghost use Rattle.runs.specs.Tick.{skipped, passed, act, turnOf, turn, afterTurn};
 ghost use Rattle.runs.specs.Schedule.{rowOf, rowsOf};
 use cells::columns::schedule;
 use cells::kinds::Task;
 use cells::limits::Program;
 use cells::table;
+use cells::tasks;
 
-// The new position (rows of the block passed), whether a task runs, and which (0 where none does).
+// What a tick does: the new position (rows of the block passed), whether a task runs, and which (0 where none does).
 pub struct Turn {
     pub position: usize,
     pub runs: bool,
     pub job: Task,
 }
 
-// The remaining time of a task.
-pub fn left_of(left: &[usize], job: Task) -> usize
-    ensures { λ r. ⌜ r ≡ leftOf (now (left .entry)) (job .0) ⌝ }
-{
-    let j = job.index();
-    if j < left.len() {
-        return left[j];
-    }
-    0
-}
-
-// Row i has nothing to do: its timeout is reached, or its task is not running.
+// Row i of a block has nothing to do: its timeout is reached, or its task is not running.
 fn skipped(block: &[i32], left: &[usize], elapsed: usize, i: usize) -> bool
     ensures { λ r. ⌜ r ≡ skipped elapsed (now (left .entry)) (rowOf (now (block .entry)) i) ⌝ }
 {
     let kind = table::field(block, schedule::WIDTH, i, schedule::KIND);
     let task = table::task(block, schedule::WIDTH, i, schedule::TASK);
     let timeout = table::field(block, schedule::WIDTH, i, schedule::TIMEOUT);
-    let rest = left_of(left, task);
+    let rest = tasks::left(left, task);
     (timeout <= elapsed) | ((kind == schedule::DISPATCH) & (rest <= 0))
 }
 
-// The position after the rows that have nothing to do.
+// The position after the rows that have nothing to do, from this position on.
 fn moved(block: &[i32], left: &[usize], elapsed: usize, position: usize) -> usize
     ensures { λ r. ⌜ r ≡ position + passed (drop position (rowsOf (now (block .entry)))) elapsed (now (left .entry)) ⌝ }
 {
@@ -53,7 +43,7 @@ fn moved(block: &[i32], left: &[usize], elapsed: usize, position: usize) -> usiz
     i
 }
 
-// What runs where the position is i.
+// What runs in a tick whose position is row i of the block: the task of a dispatch, and nothing at an idle row or after the last row.
 fn at_row(block: &[i32], i: usize) -> Turn
     ensures { λ r. ⌜ r ≡ turnOf i (act (drop i (rowsOf (now (block .entry))))) ⌝ }
 {
@@ -69,11 +59,11 @@ fn at_row(block: &[i32], i: usize) -> Turn
     Turn {
         position: i,
         runs: false,
-        job: Task(0),
+        job: Task::of(0),
     }
 }
 
-// A tick, with the ticks of the unit gone by: rows are passed at its start alone.
+// One tick of a block, after so many ticks of the unit: rows are passed at its start alone.
 pub fn tick(block: &[i32], elapsed: usize, left: [usize; Program::TASKS], position: usize) -> Turn
     ensures { λ r. ⌜ r ≡ turn (rowsOf (now (block .entry))) elapsed (record { position = position; left = left }) ⌝ }
 {
@@ -81,17 +71,16 @@ pub fn tick(block: &[i32], elapsed: usize, left: [usize; Program::TASKS], positi
     at_row(block, at)
 }
 
-// The remaining times after it.
+// The remaining times after a tick: the task that ran in it has a tick less to run.
 pub fn after(t: Turn, left: [usize; Program::TASKS]) -> [usize; Program::TASKS]
     ensures { λ r. ⌜ r ≡ afterTurn t left ⌝ }
 {
     let job = t.job;
-    let j = job.index();
-    if t.runs & (j < Program::TASKS) {
-        let rest = left[j];
+    if t.runs {
+        let rest = tasks::left(&left, job);
         if 0 < rest {
             let mut next = left;
-            next[j] = rest - 1;
+            tasks::put_left(&mut next, job, rest - 1);
             return next;
         }
     }

@@ -10,14 +10,14 @@ use crate::window;
 use cells::kinds::Mode;
 use cells::limits::Program;
 
-// Whether a tick ran outside and which of the round; if none did, the remaining times at the end.
+// Whether a task ran outside the windows, and at which tick of the round; if none did, the remaining times at the end.
 pub struct Watched {
     pub outside: bool,
     pub tick: usize,
     pub left: [usize; Program::TASKS],
 }
 
-// So many ticks of a block from its start, in mode m; `start` ticks of the round have gone by before them.
+// Watches so many ticks of a block from its start, in mode m; `start` ticks of the round have gone by before them.
 pub fn watch(
     block: &[i32],
     windows: &[i32],

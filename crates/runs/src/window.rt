@@ -1,4 +1,4 @@
-// How long a tick's window lasts.
+// How long the window that has a tick lasts.
 ghost use mathlib.Core.Path.{_≡_};
 ghost use Rattle.runs.specs.Windows.{windowHas, windowEnd, openUntil};
 use cells::columns::window;
@@ -13,7 +13,7 @@ fn window_has(windows: &[i32], supplier: usize, m: Mode, tick: usize, i: usize) 
     let own = table::mode(windows, window::WIDTH, i, window::MODE);
     let from = table::field(windows, window::WIDTH, i, window::FROM);
     let to = table::field(windows, window::WIDTH, i, window::TO);
-    (owner == supplier) & (own.index() == m.index()) & (from <= tick) & (tick < to)
+    (owner == supplier) & own.is(m) & (from <= tick) & (tick < to)
 }
 
 // Where the first window that has the tick ends; 0 where none has it.

@@ -1,4 +1,4 @@
--- A text that is not decided may still become bad: a line that is no number makes it so. Assumes nothing.
+-- A text that is not decided may still become bad: a line that is no number makes it so.
 use Prim.Native.Nat.{ℕ}
 use mathlib.Core.Path.{_≡_, ap, _∙_}
 use mathlib.Core.Bool.{Bool, true, false, cond, and-false}
@@ -17,7 +17,7 @@ use Rattle.intake.specs.Line.{Fed, fed, isDecided, isComplete, tookOf}
 use Rattle.intake.specs.Bytes.{atPart, lineEnd, fedOf, fedAll, endedOf}
 use Rattle.intake.specs.Heard.{heard}
 
--- a byte that no number has, x in ASCII, and the rest of a line with it
+-- a byte that no number has: x in ASCII
 abbrev letter : ℕ
 letter = 120
 
@@ -38,19 +38,19 @@ module _ (f : Fed) (d : isDecided (f .intake) ≡ false) where
   unfolding fedOf partAfter spoilt
   spoils = let p = f .intake .part in ap (λ (b : Bool). atPart f (cond b (withMinus p) (withBad p))) (and-false (isStart p))
 
-  -- is no number
+  -- a line with a byte that no number has is no number
   no-number : signedOf spoilt ≡ signedAs none
   unfolding signedOf spoilt
   no-number = cond-same (f .intake .part .minus) (signedAs none)
 
-  -- so the text is bad at its end
+  -- at the end of a line with a byte that no number has the text is bad
   line-bad : lineEnd (atPart f spoilt) ≡ atPart (fed (asBad (f .intake)) (f .room)) startPart
   unfolding lineEnd tookOf isDecided
   line-bad =
       ap (λ (z : Signed). atPart (tookOf (atPart f spoilt) z) startPart) no-number
       ∙ ap (λ (g : Fed). atPart g startPart) (cond-no (atPart f spoilt) (fed (asBad (atPart f spoilt .intake)) (f .room)) d)
 
-  -- and is heard so
+  -- a text that goes on with a line that is no number is heard as bad
   pub spoilt-bad : heard (endedOf (fedAll f noNumber)) ≡ bad
   unfolding fedOf endedOf heard isComplete
   spoilt-bad =

@@ -1,5 +1,5 @@
 -- The shipped program prints what document 01 says of the text that reads bring, in whatever pieces, however much each write takes; and
--- it asks for no read once the text is decided. Assumes nothing.
+-- it asks for no read once the text is decided.
 use Prim.Native.Nat.{ℕ, min}
 use mathlib.Core.Path.{_≡_, refl, sym, ap, _∙_}
 use mathlib.Core.Bool.{Bool, true, false}
@@ -25,14 +25,15 @@ use Rattle.shell.specs.Reading.{Brought, end, failure, pieceOf, brought,
 use Rattle.shell.specs.Answer.{answerOf, blank}
 use Rattle.shell.specs.Writing.{bufferSize, emptyBuffer, openingOf, codeOf, pageOf, restOf, wroteOf, isWritten}
 use Rattle.shell.specs.Running.{heardIn, answerIn, Ran}
-use Rattle.shell.specs.Exact.{Buffers, Finished, pieces, joined, heardBy, answerTo, firstPage, Prints, RanWhole, BroughtExactly, PrintsExactly, FailsPlainly, StopsDecided, StopsAtOnce}
+use Rattle.shell.specs.Exact.{Buffers, Finished, pieces, joined, heardBy, answerTo, firstPage, Prints, RanWhole, BroughtExactly}
+use Rattle.shell.specs.Exact.{PrintsExactly, FailsPlainly, StopsDecided, StopsAtOnce}
 use Rattle.shell.proofs.Shipped.{read-text}
 use Rattle.shell.proofs.Hearing.{brought-bytes, some-bytes, hears-one}
 use Rattle.shell.proofs.Handing.{first-pending, page-ready, taken-pending, taken-whole, writes-end}
 use Rattle.shell.proofs.Pieces.{pieces-heard, stopped-heard, going-heard}
 use Rattle.shell.proofs.AtOnce.{noNumber, heard-bad, spoilt-bad}
 
--- what is printed of what was heard
+-- a program that has heard a text prints what is printed of it, whatever writes take
 prints : (B : Buffers) (reads : List Brought) (text : List ℕ) → printed (heard (heardBy B reads .fed)) ≡ text → Prints B reads text
 prints B reads text e =
     let a = answerTo B reads in
@@ -45,7 +46,7 @@ prints B reads text e =
       ends = λ takes each h. writes-end a p takes ready each (omega (arith, ap length all));
     }
 
--- a run of the code
+-- a run of the code that says that all was written has handed on the whole text of the answer
 pub ran-whole : RanWhole
 ran-whole tables left code buffer R =
     let f = heardIn tables (R .reads) .fed in
@@ -55,7 +56,7 @@ ran-whole tables left code buffer R =
     ∙ first-pending a 0 (R .bytes)
     ∙ read-text (heard f)
 
--- what a read has brought
+-- what a read has brought is told by its answer
 pub brought-exactly : BroughtExactly
 unfolding brought
 brought-exactly buffer =
@@ -67,26 +68,26 @@ brought-exactly buffer =
           brought-bytes (pos n) buffer n (le-ltb n 0 (omega arith)) z ∙ some-bytes n buffer (λ e. omega arith);
     }
 
--- nothing was read yet: the text is not decided
+-- a text of which nothing was read yet is not decided
 start-open : isDecided startIntake ≡ false
 unfolding isDecided
 start-open = refl
 
--- every text, in whatever pieces
+-- a text, in whatever pieces reads bring it, is answered as document 01 says
 pub prints-exactly : PrintsExactly
 unfolding shipped
 prints-exactly B ps =
     prints B (pieces ps ++ _) (shipped (joined ps))
     (ap printed (pieces-heard (fed startIntake (B .tables)) ps ∙ reads-exactly (B .tables) (B .roomy) (joined ps)))
 
--- a text that is decided
+-- a text after which the program reads no more is answered as document 01 says, whatever would have followed
 pub stops-decided : StopsDecided
 unfolding shipped
 stops-decided B ps e more =
     prints B (pieces ps) (shipped (joined ps ++ more))
     (ap printed (stopped-heard (fed startIntake (B .tables)) ps more e ∙ reads-exactly (B .tables) (B .roomy) (joined ps ++ more)))
 
--- a read that fails
+-- a read that fails before the text is decided has the program print `bad input`
 pub fails-plainly : FailsPlainly
 unfolding afterRead
 fails-plainly B ps e =
@@ -112,7 +113,7 @@ stops-at-once B ps all = go (heardBy B (pieces ps) .more) refl
         ap printed (sym (reads-exactly (B .tables) (B .roomy) (joined ps ++ noNumber)) ∙ ap (λ (h : Fed). heard (endedOf h)) (sym (cut-anywhere f (joined ps) noNumber)) ∙ spoilt-bad (fedAll f (joined ps)) (g .undecided)) in
         absurd (omega (arith, ap (λ (l : List ℕ). getD l 0 0) (sym spoilt ∙ all noNumber)))
 
--- instances of the premises: buffers of zeros
+-- buffers of zeros: instances of the premises
 zeros : Buffers
 zeros =
     record {
@@ -122,12 +123,12 @@ zeros =
       fits = omega (arith, length-replicate {A = ℕ} room 0);
     }
 
--- no text at all: ten bytes, in three writes
+-- the answer to no text at all is ten bytes, here in three writes
 ten-bytes : Finished zeros (end ∷ []) (4 ∷ 5 ∷ 1 ∷ [])
 unfolding zeros afterRead endedOf heard isComplete answerOf codeOf pageOf openingOf wroteOf restOf isWritten
 ten-bytes = refl
 
--- that, as a run of the code: the input has ended, the tables and the code are as they were, `bad input` stands in the buffer
+-- a run on no text at all: the tables and the code are as they were, `bad input` stands in the buffer
 nothing-ran : Ran emptyRoom emptyRoom blank (badInput ++ drop (length badInput) emptyBuffer) true
 unfolding afterRead endedOf heard isComplete answerOf codeOf pageOf openingOf wroteOf restOf isWritten
 nothing-ran =
@@ -158,7 +159,7 @@ stops-there : heardBy zeros (pieces tooManyPorts) .more ≡ false
 unfolding tooManyPorts zeros afterRead fedOf lineEnd tookOf countedOf shapeAt isDecided signedOf partAfter capped
 stops-there = refl
 
--- and the answer is 1 whatever follows
+-- the answer to a text with too many ports is 1 whatever follows
 one-there : (more : List ℕ) → shipped (joined tooManyPorts ++ more) ≡ verdictLine shapeRefused
 unfolding tooManyPorts zeros afterRead fedOf lineEnd tookOf countedOf shapeAt isDecided isComplete heard signedOf partAfter capped shipped
 one-there more = ap printed (sym (reads-exactly emptyRoom (zeros .roomy) (joined tooManyPorts ++ more)) ∙ sym (stopped-heard (fed startIntake emptyRoom) tooManyPorts more stops-there))

@@ -1,4 +1,4 @@
--- What writes come to, however much each of them takes: what was taken and what is still to come is the text. Assumes nothing.
+-- What writes come to, however much each of them takes: what was taken and what is still to come is the text.
 use Prim.Native.Nat.{ℕ, zero, suc, _+_, _-_, _*_, _≤_, _<_}
 use mathlib.Core.Path.{_≡_, refl, sym, ap, subst, _∙_}
 use mathlib.Core.Bool.{Bool, true, false, cond}
@@ -24,14 +24,15 @@ use Rattle.text.proofs.Decimals.{decimal-few}
 use Rattle.text.proofs.PageEnd.{Ends, page-ends, page-goes, lines-some, lines-cut}
 use Rattle.shell.specs.Answer.{Answered, answered, textOfAnswer}
 use Rattle.shell.specs.declared.answer.Shown.{Shown}
-use Rattle.shell.specs.Writing.{openingOf, codeOf, opsOf, Spread, spread, laid, pageOf, restOf, onward, wroteOf, leftOf, takenOf, pendingOf, isWritten, AfterWrites}
+use Rattle.shell.specs.Writing.{openingOf, codeOf, opsOf, Spread, spread, laid, pageOf, restOf, onward, wroteOf, leftOf, takenOf}
+use Rattle.shell.specs.Writing.{pendingOf, isWritten, AfterWrites}
 
 -- a page that was just laid has its whole text to hand on
 laid-rest : (text : List ℕ) (next : ℕ) (buffer : List ℕ) → restOf (laid text next buffer) ≡ text
 unfolding restOf
 laid-rest text next buffer = take-append-seam text (drop (length text) buffer)
 
--- the buffer keeps its length
+-- a page that is laid keeps the length of the buffer
 laid-same : (text : List ℕ) (next : ℕ) (buffer : List ℕ) → length text ≤ length buffer → length (laid text next buffer .buffer) ≡ length buffer
 laid-same text next buffer h = omega (arith, length-append text (drop (length text) buffer), length-drop (length text) buffer)
 
@@ -46,7 +47,7 @@ opening-text a = go (a .shown .bad)
     go true = append-nil badInput
     go false = refl
 
--- the first line has some byte, and there is room for it
+-- a text has some byte, and any buffer has room for it
 pub record Short (text : List ℕ) : Type 0 where
   pub some : 0 < length text
   pub few : length text ≤ room
@@ -60,16 +61,16 @@ opening-line s =
     record { some = omega (arith, n); few = omega (arith, n, decimal-few (s .number)) })
 
 module _ (a : Answered) (from : ℕ) (buffer : List ℕ) where
-  -- where the page from an instruction on ends, and its lines
+  -- where the page from an instruction on ends
   last : ℕ
   last = pageEnd (length (opsOf a) - from) (opsOf a) (length buffer) from 0
 
-  -- from the first page on
+  -- from the first page on the whole text of the answer is still to come
   pub first-pending : pendingOf a (pageOf a false from buffer) ≡ textOfAnswer a
   unfolding pageOf
   first-pending = ap (λ (l : List ℕ). l ++ listingText (opsOf a)) (laid-rest (openingOf (a .shown)) 0 buffer) ∙ opening-text a
 
-  -- from another page on
+  -- from another page on the lines from its first instruction on are still to come
   later-pending : pendingOf a (pageOf a true from buffer) ≡ linesFrom from (drop from (opsOf a))
   unfolding pageOf last
   later-pending =
@@ -99,7 +100,7 @@ pub record Ready (a : Answered) (p : Spread) : Type 0 where
   pub fits : room ≤ length (p .buffer)
   pub last : length (restOf p) ≡ 0 → length (opsOf a) ≤ p .sheet .next
 
--- every page is laid so
+-- every page that is laid is whole, and the last one where nothing of it is left
 pub page-ready : (a : Answered) (begun : Bool) (from : ℕ) (buffer : List ℕ) → room ≤ length buffer → Ready a (pageOf a begun from buffer)
 unfolding pageOf
 page-ready a false from buffer r =
@@ -131,14 +132,14 @@ page-ready a true from buffer r =
     go (yes h) e = absurd (omega (arith, lines-some os from to (page-goes os (length buffer) from h r) h, ap length (laid-rest lines to buffer)))
     go (no h) e = omega (arith, ends .onward)
 
--- further on in a page
+-- what is left of a page of which so many bytes more were written
 further : (p : Spread) (n : ℕ) → restOf (spread (onward (p .sheet) n) (p .buffer)) ≡ drop n (restOf p)
 unfolding restOf
 further p n = sym (drop-drop n (p .sheet .from) (take (p .sheet .len) (p .buffer)))
 
 -- a write that took so many bytes
 module _ (a : Answered) (p : Spread) (n : ℕ) where
-  -- what it took and what is still to come was still to come
+  -- what a write took and what is still to come after it was still to come before it
   pub wrote-pending : take n (restOf p) ++ pendingOf a (wroteOf a p n) ≡ pendingOf a p
   unfolding wroteOf
   wrote-pending = cond-all Joined (ltb n (length (restOf p))) _ _ within beyond
@@ -160,7 +161,7 @@ module _ (a : Answered) (p : Spread) (n : ℕ) where
           ap (λ (l : List ℕ). l ++ pendingOf a (pageOf a true (p .sheet .next) (p .buffer))) (take-all n (restOf p) (ltb-false n (length (restOf p)) e))
           ∙ ap (λ (l : List ℕ). restOf p ++ l) (later-pending a (p .sheet .next) (p .buffer))
 
-  -- the page behind it is whole again
+  -- the page after a write is whole, and the last one where nothing of it is left
   pub wrote-ready : Ready a p → Ready a (wroteOf a p n)
   unfolding wroteOf
   wrote-ready r =
@@ -172,7 +173,7 @@ module _ (a : Answered) (p : Spread) (n : ℕ) where
       })
       (λ e. page-ready a true (p .sheet .next) (p .buffer) (r .fits))
 
--- any writes
+-- what any writes took and what is still to come after them was still to come before them
 pub taken-pending : (a : Answered) (p : Spread) (takes : List ℕ) → takenOf a p takes ++ pendingOf a (leftOf a p takes) ≡ pendingOf a p
 taken-pending a p [] = refl
 taken-pending a p (n ∷ ns) =
@@ -192,7 +193,7 @@ none-pending a p r e =
     ap (λ (l : List ℕ). l ++ linesFrom (p .sheet .next) (drop (p .sheet .next) (opsOf a))) (drop-of-length-le (restOf p) {i = 0} (omega arith))
     ∙ ap (linesFrom (p .sheet .next)) (drop-of-length-le (opsOf a) {i = p .sheet .next} (r .last z))
 
--- then all was taken
+-- where nothing is left to hand on, all was taken
 pub taken-whole : (a : Answered) (p : Spread) (takes : List ℕ) → Ready a p → isWritten (leftOf a p takes) ≡ true → takenOf a p takes ≡ pendingOf a p
 taken-whole a p takes r e =
     sym (append-nil (takenOf a p takes))
@@ -211,7 +212,7 @@ pending-falls a p n r h = go (length (restOf p)) refl
     go zero e = omega (arith, joins, ap length (none-pending a p r (eq-eqb (length (restOf p)) 0 e)))
     go (suc k) e = omega (arith, joins, length-take n (restOf p))
 
--- so after as many such writes as there are bytes to come nothing is left
+-- after as many writes that take a byte at least as there are bytes to come, nothing is left
 pub writes-end : (a : Answered) (p : Spread) (takes : List ℕ) → Ready a p → Every (λ (n : ℕ). 1 ≤ n) takes
     → length (pendingOf a p) ≤ length takes → isWritten (leftOf a p takes) ≡ true
 unfolding isWritten
@@ -221,16 +222,16 @@ writes-end a p [] r all h =
 writes-end a p (n ∷ ns) r all h =
     writes-end a (wroteOf a p n) ns (wrote-ready a p n r) (all .1) (omega (arith, pending-falls a p n r (all .0)))
 
--- one write more
+-- the page that is left after one write more
 left-more : (a : Answered) (p : Spread) (takes : List ℕ) (n : ℕ) → leftOf a p (takes ++ (n ∷ [])) ≡ wroteOf a (leftOf a p takes) n
 left-more a p [] n = refl
 left-more a p (m ∷ ms) n = left-more a (wroteOf a p m) ms n
 
--- no write yet
+-- before the first write the page is the first one
 pub writes-none : (a : Answered) (p : Spread) → AfterWrites a p p
 writes-none a p = record { takes = []; comes = refl }
 
--- after one more, whatever it took
+-- after one write more, whatever it took, the page is that after some writes
 pub writes-more : (a : Answered) (first p q : Spread) (n : ℕ) → AfterWrites a first p → q ≡ wroteOf a p n → AfterWrites a first q
 writes-more a first p q n w e =
     record {
@@ -238,18 +239,19 @@ writes-more a first p q n w e =
       comes = left-more a first (w .takes) n ∙ ap (λ (s : Spread). wroteOf a s n) (w .comes) ∙ sym e;
     }
 
--- less is still to come
+-- after a write that took some byte less is still to come
 pub pending-less : (a : Answered) (p q : Spread) (n : ℕ) → q ≡ wroteOf a p n → (n ≡ 0 → ⊥) → n ≤ length (restOf p)
     → length (pendingOf a q) < length (pendingOf a p)
 pending-less a p q n e some few =
     omega
     (arith, ap (λ (s : Spread). length (pendingOf a s)) e, ap length (wrote-pending a p n), length-append (take n (restOf p)) (pendingOf a (wroteOf a p n)), length-take-le n (restOf p) few)
 
--- whether all was written, by what is left of the page
+-- where nothing is left of the page, all was written
 pub written-yes : (p : Spread) (rest : List ℕ) → rest ≡ restOf p → length rest ≤ 0 → isWritten p ≡ true
 unfolding isWritten
 written-yes p rest e h = eq-eqb (length (restOf p)) 0 (omega (arith, ap length e))
 
+-- where something is left of the page, not all was written
 pub written-no : (p : Spread) (rest : List ℕ) → rest ≡ restOf p → 0 < length rest → isWritten p ≡ false
 unfolding isWritten
 written-no p rest e h = ne-eqb (length (restOf p)) 0 (λ z. omega (arith, ap length e))

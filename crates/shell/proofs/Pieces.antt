@@ -1,4 +1,4 @@
--- Pieces of a text that reads bring one after the other: what is heard of them is what is heard of the text. Assumes nothing.
+-- Pieces of a text that reads bring one after the other: what is heard of them is what is heard of the text.
 use Prim.Native.Nat.{ℕ}
 use mathlib.Core.Path.{_≡_, refl, sym, ap, _∙_}
 use mathlib.Core.Bool.{Bool, true, false, not}
@@ -22,7 +22,7 @@ still-heard : (f : Fed) → isDecided (f .intake) ≡ true → (reads : List Bro
     → heard (hears (hearing f false) reads .fed) ≡ heard (endedOf (fedAll f rest))
 still-heard f d reads rest = ap (λ (h : Hearing). heard (h .fed)) (hears-still f reads) ∙ sym (decided-stays f d rest)
 
--- all pieces, then the end
+-- what is heard of all pieces and then the end is what is heard of the text
 pub pieces-heard : (f : Fed) (ps : List (List ℕ))
     → heard (hears (hearing f true) (pieces ps ++ (end ∷ [])) .fed) ≡ heard (endedOf (fedAll f (joined ps)))
 unfolding afterRead
@@ -38,7 +38,7 @@ pieces-heard f (p ∷ ps) = go (isDecided (fedAll f p .intake)) refl (pieces-hea
     go true d more = still-heard g d (pieces ps ++ (end ∷ [])) (joined ps)
     go false d more = more
 
--- pieces after which the program reads no more, and whatever would have followed
+-- what is heard of pieces after which the program reads no more is heard of the text, whatever would have followed
 pub stopped-heard : (f : Fed) (ps : List (List ℕ)) (rest : List ℕ) → hears (hearing f true) (pieces ps) .more ≡ false
     → heard (hears (hearing f true) (pieces ps) .fed) ≡ heard (endedOf (fedAll f (joined ps ++ rest)))
 unfolding afterRead
@@ -57,7 +57,7 @@ stopped-heard f (p ∷ ps) rest e =
     go true d e more = still-heard g d (pieces ps) (joined ps ++ rest)
     go false d e more = more e
 
--- pieces after which it reads on: the text so far, not decided
+-- after pieces after which the program reads on, the text so far is known and not decided
 pub record Going (f : Fed) (ps : List (List ℕ)) : Type 0 where
   pub comes : hears (hearing f true) (pieces ps) ≡ hearing (fedAll f (joined ps)) true
   pub undecided : isDecided (fedAll f (joined ps) .intake) ≡ false

@@ -1,4 +1,4 @@
--- Reads, the answer and writes, one after the other, are a run of the program. Assumes nothing.
+-- Reads, the answer and writes, one after the other, are a run of the program.
 use Prim.Native.Nat.{ℕ, _≤_}
 use mathlib.Core.Path.{_≡_, sym, ap, subst, _∙_}
 use mathlib.Core.Bool.{Bool, false}
@@ -13,7 +13,7 @@ use Rattle.shell.specs.Reading.{Hearing, hearing, AfterSome}
 use Rattle.shell.specs.Writing.{pageOf, Printed}
 use Rattle.shell.specs.Running.{Ran}
 
--- what was heard, the answer to it, what was printed of that
+-- some reads, the answer to what was heard and some writes of it are a run of the program
 pub ran : (tables : List ℤ) (f : Fed) (a : Answered) (bytes buffer : List ℕ) (all : Bool) → AfterSome tables (hearing f false)
     → a ≡ answerOf (heard f) blank → room ≤ length bytes → Printed a (pageOf a false 0 bytes) all buffer
     → Ran tables (f .room) (a .code) buffer all

@@ -1,5 +1,4 @@
 -- What is printed of the answer to what was read is what document 01 has the program print.
--- Assumes nothing.
 use Prim.Native.Nat.{ℕ, zero, suc, _*_}
 use mathlib.Core.Path.{_≡_, refl, sym, ap, _∙_}
 use mathlib.Core.List.{List, _++_, append-nil}
@@ -17,7 +16,7 @@ use Rattle.text.specs.Input.{Read, bad, tooMany, got, program}
 use Rattle.text.specs.Shipped.{verdictLine, answered, printed, shipped}
 use Rattle.shell.specs.Answer.{answerOf, blank, textOfAnswer}
 
--- of a program that was read
+-- what is printed of the answer to a program that was read is what the definition says
 compiled-text : (T : Tables) (rest : List (Option ℤ)) → textOfAnswer (answerOf (got T rest) blank) ≡ printed (got T rest)
 unfolding answerOf textOfAnswer
 compiled-text T rest = go (compileVerdict L) refl
@@ -42,7 +41,7 @@ read-text bad = refl
 read-text tooMany = refl
 read-text (got T rest) = compiled-text T rest
 
--- so for every text
+-- what is printed of the answer to a text is what the shipped program prints for it
 pub shipped-text : (text : List ℕ) → textOfAnswer (answerOf (program text) blank) ≡ shipped text
 unfolding shipped
 shipped-text text = read-text (program text)

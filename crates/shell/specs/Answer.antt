@@ -1,4 +1,4 @@
--- What the shipped program answers to what it has read, and what is printed of that. Assumes nothing.
+-- What the shipped program answers to what it has read, and what is printed of that.
 use Prim.Native.Nat.{ℕ, _*_}
 use mathlib.Core.Bool.{true, false, cond}
 use mathlib.Core.List.{List, _++_}
@@ -18,16 +18,17 @@ pub record Answered : Type 0 where
   pub shown : Shown
   pub code : List ℕ
 
+-- an answer and its code put together
 abbrev pub answered : Shown → List ℕ → Answered
 answered s code = record { shown = s; code = code }
 
--- of a program that was read, compiling's own
+-- the answer to a program that was read: compiling's own
 abbrev pub compiledOf : Tables → List ℕ → Answered
 compiledOf T code =
     let L : Compiling = record { tables = T; slice = code } in
     answered (record { bad = false; number = compileAnswer L .number; length = compileAnswer L .length }) (compileSlice L)
 
--- `bad input`; 1 for a count outside its limit; else what compiling says
+-- the answer to what was read: `bad input`; 1 for a count outside its limit; else what compiling says
 unfoldable pub answerOf : Read Tables → List ℕ → Answered
 answerOf bad code = answered (record { bad = true; number = 0; length = 0 }) code
 answerOf tooMany code = answered (record { bad = false; number = shapeRefused; length = 0 }) code

@@ -1,6 +1,6 @@
 -- What is promised of the shipped program. Outside every contract are two calls, `read` and `write`, and their loops; so it is said of
 -- every sequence of pieces that reads may bring, and of every number of bytes that each write may take: the bytes handed to `write`, in
--- order, are the text that document 01 gives; and no read is asked for after the text is decided. Assumes nothing.
+-- order, are the text that document 01 gives; and no read is asked for after the text is decided.
 use Prim.Native.Nat.{ℕ, _≤_}
 use mathlib.Core.Path.{_≡_}
 use mathlib.Core.Bool.{true, false}
@@ -25,32 +25,37 @@ pub record Buffers : Type 0 where
   pub bytes : List ℕ
   pub fits : room ≤ length bytes
 
--- reads that bring these pieces, one after the other, and the text that they are
+-- reads that bring these pieces, one after the other
 abbrev pub pieces : List (List ℕ) → List Brought
 pieces ps = map piece ps
 
+-- the text that these pieces are
 abbrev pub joined : List (List ℕ) → List ℕ
 joined [] = []
 joined (p ∷ ps) = p ++ joined ps
 
 module _ (B : Buffers) (reads : List Brought) where
-  -- what is known after these reads, what is answered to it, and the first page
+  -- what is known after these reads
   abbrev pub heardBy : Hearing
   heardBy = heardIn (B .tables) reads
 
+  -- what is answered to what is known after these reads
   abbrev pub answerTo : Answered
   answerTo = answerIn (B .tables) reads
 
+  -- the first page of the answer
   abbrev pub firstPage : Spread
   firstPage = pageOf answerTo false 0 (B .bytes)
 
-  -- with so many bytes taken by each write: what was handed on and taken, in order; what is still to come; nothing is
+  -- what was handed on and taken, in order, with so many bytes taken by each write
   abbrev pub handed : List ℕ → List ℕ
   handed takes = takenOf answerTo firstPage takes
 
+  -- what is still to come, with so many bytes taken by each write
   abbrev pub toCome : List ℕ → List ℕ
   toCome takes = pendingOf answerTo (leftOf answerTo firstPage takes)
 
+  -- nothing is still to come, with so many bytes taken by each write
   abbrev pub Finished : List ℕ → Type 0
   Finished takes = isWritten (leftOf answerTo firstPage takes) ≡ true
 
@@ -74,6 +79,7 @@ pub record ReadSays (buffer : List ℕ) : Type 0 where
   pub ended : brought (pos 0) buffer ≡ end
   pub came : (n : ℕ) → 1 ≤ n → n ≤ length buffer → brought (pos n) buffer ≡ piece (take n buffer)
 
+-- what a read has brought is told by its answer, whatever stands in the buffer
 abbrev pub BroughtExactly : Type 0
 BroughtExactly = (buffer : List ℕ) → ReadSays buffer
 

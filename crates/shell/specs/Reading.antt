@@ -1,5 +1,4 @@
 -- What reading comes to, whatever reads bring: after each read what is known of the text, and whether the program reads on.
--- Assumes nothing.
 use Prim.Native.Nat.{ℕ, zero, suc}
 use mathlib.Core.Path.{_≡_}
 use mathlib.Core.Bool.{Bool, true, false, not, cond}
@@ -18,7 +17,7 @@ pub data Brought : Type 0 where
   end : Brought
   failure : Brought
 
--- of so many bytes at the buffer's start: none is the end of the input
+-- what a read of so many bytes has brought to the buffer's start: none is the end of the input
 abbrev pub pieceOf : ℕ → List ℕ → Brought
 pieceOf zero buffer = end
 pieceOf (suc n) buffer = piece (take (suc n) buffer)
@@ -32,21 +31,22 @@ pub record Hearing : Type 0 where
   pub fed : Fed
   pub more : Bool
 
+-- what is known of the text and whether the program reads on, put together
 abbrev pub hearing : Fed → Bool → Hearing
 hearing f more = record { fed = f; more = more }
 
--- after a read: at the end a last line without a line end is a line; of a text that is not whole nothing is known
+-- what is known after a read: at the end a last line without a line end is a line; a read that fails leaves the text bad
 unfoldable pub afterRead : Fed → Brought → Hearing
 afterRead f (piece bytes) = hearing (fedAll f bytes) (not (isDecided (fedAll f bytes .intake)))
 afterRead f end = hearing (endedOf f) false
 afterRead f failure = hearing (fed (asBad (f .intake)) (f .room)) false
 
--- read by read, as long as the program reads on
+-- what is known after these reads, as long as the program reads on
 abbrev pub hears : Hearing → List Brought → Hearing
 hears h [] = h
 hears h (b ∷ bs) = elim (h .more) [ true ↦ hears (afterRead (h .fed) b) bs | false ↦ h ]
 
--- before the first read
+-- what is known before the first read
 abbrev pub silent : List ℤ → Hearing
 silent room = hearing (fed startIntake room) true
 

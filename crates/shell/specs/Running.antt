@@ -1,5 +1,4 @@
 -- What the program comes to in the memory that it is lent: some reads, the answer to what they brought, and some writes of that.
--- Assumes nothing.
 use Prim.Native.Nat.{ℕ, _≤_}
 use mathlib.Core.Path.{_≡_}
 use mathlib.Core.Bool.{Bool, false}
@@ -12,14 +11,15 @@ use Rattle.shell.specs.Answer.{Answered, answerOf, blank}
 use Rattle.shell.specs.Reading.{Brought, Hearing, hears, silent}
 use Rattle.shell.specs.Writing.{pageOf, Printed}
 
--- what is known after these reads into these tables, and what is answered to it
+-- what is known after these reads into these tables
 abbrev pub heardIn : List ℤ → List Brought → Hearing
 heardIn tables reads = hears (silent tables) reads
 
+-- what is answered to what is known after these reads into these tables
 abbrev pub answerIn : List ℤ → List Brought → Answered
 answerIn tables reads = answerOf (heard (heardIn tables reads .fed)) blank
 
--- from these tables to these, with this code, this buffer and whether all was written
+-- the program has run from these tables to these, with this code, this buffer and whether all was written
 pub record Ran (tables left : List ℤ) (code buffer : List ℕ) (all : Bool) : Type 0 where
   pub reads : List Brought
   pub over : heardIn tables reads .more ≡ false

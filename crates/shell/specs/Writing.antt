@@ -1,4 +1,4 @@
--- What is handed to writes, however much each of them takes: the pages of an answer, one after the other. Assumes nothing.
+-- What is handed to writes, however much each of them takes: the pages of an answer, one after the other.
 use Prim.Native.Nat.{ℕ, _+_, _-_, _*_}
 use mathlib.Core.Path.{_≡_}
 use mathlib.Core.Bool.{Bool, true, cond}
@@ -14,10 +14,11 @@ use Rattle.shell.specs.Answer.{Answered}
 use Rattle.shell.specs.declared.answer.Shown.{Shown}
 use Rattle.shell.specs.declared.pages.Sheet.{Sheet}
 
--- the buffer that pieces are read into and pages are laid in: so many bytes, 0 at first
+-- how many bytes the buffer has that pieces are read into and pages are laid in
 abbrev pub bufferSize : ℕ
 bufferSize = 4096
 
+-- the buffer at first: all its bytes are 0
 abbrev pub emptyBuffer : List ℕ
 emptyBuffer = replicate bufferSize 0
 
@@ -25,10 +26,11 @@ emptyBuffer = replicate bufferSize 0
 unfoldable pub openingOf : Shown → List ℕ
 openingOf s = cond (s .bad) badInput (verdictLine (s .number))
 
--- the code whose lines follow it; behind `bad input` there is none
+-- the code whose lines follow the first line of an answer; behind `bad input` there is none
 unfoldable pub codeOf : Answered → List ℕ
 codeOf a = take (wordsEach * cond (a .shown .bad) 0 (a .shown .length)) (a .code)
 
+-- the instructions whose lines follow the first line of an answer
 abbrev pub opsOf : Answered → List Op
 opsOf a = instructions (codeOf a)
 
@@ -37,6 +39,7 @@ pub record Spread : Type 0 where
   pub sheet : Sheet
   pub buffer : List ℕ
 
+-- a page and its buffer put together
 abbrev pub spread : Sheet → List ℕ → Spread
 spread s buffer = record { sheet = s; buffer = buffer }
 
@@ -54,21 +57,22 @@ pageOf a begun from buffer =
 unfoldable pub restOf : Spread → List ℕ
 restOf p = drop (p .sheet .from) (take (p .sheet .len) (p .buffer))
 
--- further on, by so many bytes
+-- a page of which so many bytes more were written
 abbrev pub onward : Sheet → ℕ → Sheet
 onward s n = record { from = s .from + n; len = s .len; next = s .next }
 
--- after a write that took so many bytes: the rest of the page, or the next page
+-- the page after a write that took so many bytes: the rest of it, or the next page
 unfoldable pub wroteOf : Answered → Spread → ℕ → Spread
 wroteOf a p n =
     cond (ltb n (length (restOf p))) (spread (onward (p .sheet) n) (p .buffer))
     (pageOf a true (p .sheet .next) (p .buffer))
 
--- write by write, each with the bytes that it took: the page that is left, and all that was taken, in order
+-- the page that is left after these writes, each with the bytes that it took
 abbrev pub leftOf : Answered → Spread → List ℕ → Spread
 leftOf a p [] = p
 leftOf a p (n ∷ ns) = leftOf a (wroteOf a p n) ns
 
+-- all that was taken by these writes, in order, each with the bytes that it took
 abbrev pub takenOf : Answered → Spread → List ℕ → List ℕ
 takenOf a p [] = []
 takenOf a p (n ∷ ns) = take n (restOf p) ++ takenOf a (wroteOf a p n) ns
@@ -77,7 +81,7 @@ takenOf a p (n ∷ ns) = take n (restOf p) ++ takenOf a (wroteOf a p n) ns
 abbrev pub pendingOf : Answered → Spread → List ℕ
 pendingOf a p = restOf p ++ linesFrom (p .sheet .next) (drop (p .sheet .next) (opsOf a))
 
--- no byte is left to hand on
+-- no byte of an answer is left to hand on
 unfoldable pub isWritten : Spread → Bool
 isWritten p = eqb (length (restOf p)) 0
 

@@ -12,14 +12,14 @@ use code::Compiled;
 use intake::state::Intake;
 use intake::tables;
 
-// `bad`, or the number of compiling and the listing's length; of a bad text these say nothing, and are 0.
+// What is to be printed: the text is bad, or the number of compiling and the listing's length, which are 0 of a bad text.
 pub struct Shown {
     pub bad: bool,
     pub number: usize,
     pub length: usize,
 }
 
-// A text that was read whole, compiled.
+// The tables of a text that was read whole are compiled into a lent slice.
 fn compiled(i: Intake, room: &[i32], code: &mut [u32]) -> Compiled
     ensures answer { λ r. ⌜ r ≡ compileAnswer (compiling (tablesRead (fed i (now (room .entry)))) (now (code .entry))) ⌝ }
     ensures slice { λ r. ⌜ now (code .exit) ≡ compileSlice (compiling (tablesRead (fed i (now (room .entry)))) (now (code .entry))) ⌝ }
@@ -28,7 +28,7 @@ fn compiled(i: Intake, room: &[i32], code: &mut [u32]) -> Compiled
     compiler::compile(&tables, Program { start: i.start }, code)
 }
 
-// Of a text that is complete, compiling's answer; of the others a count was out of its limit, or the text is bad.
+// Compiling's answer where the text is complete; else number 1 where a count was out of its limit, or that the text is bad.
 pub fn answer(i: Intake, room: &[i32], code: &mut [u32]) -> Shown
     requires { ⌜ now code ≡ blank ⌝ }
     ensures exact { λ r. ⌜ answered r (now (code .exit)) ≡ answerOf (heard (fed i (now (room .entry)))) blank ⌝ }

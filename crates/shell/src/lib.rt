@@ -13,7 +13,7 @@ ghost use Rattle.intake.specs.Exact.{Roomy};
 ghost use Rattle.shell.specs.Answer.{blank};
 ghost use Rattle.shell.specs.Running.{Ran};
 
-// In lent memory. Nothing is printed before all of it is decided.
+// The program runs in lent memory; nothing is printed before all of it is decided. Whether all of it was written is returned.
 fn ran(input: i32, output: i32, tables: &mut [i32], code: &mut [u32], buffer: &mut [u8]) -> bool
     requires { ⌜ Roomy (now tables) ⌝ }
     requires { ⌜ now code ≡ blank ⌝ }
@@ -25,7 +25,7 @@ fn ran(input: i32, output: i32, tables: &mut [i32], code: &mut [u32], buffer: &m
     printing::print(output, shown, code, buffer)
 }
 
-// In memory of its own. Whether all of it was written.
+// The program runs in memory of its own. Whether all of its answer was written is returned.
 pub fn run(input: i32, output: i32) -> bool {
     let mut tables = intake::shape::empty_room();
     let mut code = memory::blank_code();

@@ -10,15 +10,16 @@ use cells::limits::Program;
 use intake::shape::ROOM;
 use text::line::Line;
 
-// The words of the longest listing.
+// How many words the longest listing has.
 const CODE: usize = Program::CODE * Program::WORDS;
 
-// Bytes of the input that are held, and later of the listing's text.
+// How many bytes of the input are held at a time, and later of the listing's text.
 const BUFFER: usize = 4096;
 
-// All buffers together, in bytes, and the most that they may be.
+// How many bytes all buffers have together.
 const BUFFERS: usize = 4 * ROOM + 4 * CODE + BUFFER + Line::ROOM;
 
+// How many bytes all buffers may have together.
 const MOST: usize = 65536;
 
 // The buffers are within 64 KiB.

@@ -19,7 +19,7 @@ pub struct Sheet {
     pub next: usize,
 }
 
-// The first line of an answer.
+// The first line of an answer: `bad input`, or the number.
 fn opening(shown: Shown) -> Line
     ensures { λ r. ⌜ Holds r (openingOf shown) ⌝ }
 {
@@ -29,7 +29,7 @@ fn opening(shown: Shown) -> Line
     listing::verdict_line(shown.number)
 }
 
-// The code whose lines follow it.
+// The words of the code whose lines follow the first line of an answer.
 fn lines(shown: Shown, code: &[u32]) -> &[u32]
     ensures { λ r. ⌜ now r ≡ codeOf (answered shown (now (code .entry))) ⌝ }
 {
@@ -60,7 +60,7 @@ pub fn page(shown: Shown, begun: bool, from: usize, code: &[u32], buffer: &mut [
     }
 }
 
-// What is left of a page.
+// What of a page is still to be written.
 pub fn rest(sheet: Sheet, buffer: &[u8]) -> &[u8]
     ensures { λ r. ⌜ now r ≡ restOf (spread sheet (now (buffer .entry))) ⌝ }
 {
@@ -69,7 +69,7 @@ pub fn rest(sheet: Sheet, buffer: &[u8]) -> &[u8]
     &buffer[from..end]
 }
 
-// After a write that took n bytes: the rest of the page, or the next page.
+// The page after a write that took n bytes: the rest of this one, or the next one.
 pub fn wrote(shown: Shown, sheet: Sheet, n: usize, code: &[u32], buffer: &mut [u8]) -> Sheet
     requires { ⌜ room ≤ length (now buffer) ⌝ }
     ensures { λ r. ⌜ spread r (now (buffer .exit))

@@ -9,7 +9,7 @@ use crate::answer::Shown;
 use crate::pages;
 use crate::pages::Sheet;
 
-// One write of what is left of a page: how many bytes it took, none where it failed.
+// What is left of a page is handed to one write. How many bytes it took is returned, 0 where it failed.
 fn hand(output: i32, sheet: Sheet, buffer: &[u8]) -> usize
     ensures { λ r. ⌜ r ≤ length (restOf (spread sheet (now (buffer .entry)))) ⌝ }
 {
@@ -17,7 +17,7 @@ fn hand(output: i32, sheet: Sheet, buffer: &[u8]) -> usize
     io::count(libc::write(output, bytes), bytes)
 }
 
-// All of an answer: whether all of it was written.
+// An answer is printed. Whether all of it was written is returned.
 pub fn print(output: i32, shown: Shown, code: &[u32], buffer: &mut [u8]) -> bool
     requires { ⌜ room ≤ length (now buffer) ⌝ }
     ensures { λ r. ⌜ Printed (answered shown (now (code .entry)))

@@ -12,7 +12,7 @@ pub struct Piece {
     pub more: bool,
 }
 
-// What a read has brought that answered `got`: a failure leaves the text bad, since what is missing of it is not known; no byte is its
+// What is known after a read that answered `got`: a failure leaves the text bad, since what is missing of it is not known; no byte is its
 // end; else so many bytes, after which it is read on unless the text is decided.
 fn took(i: Intake, got: isize, buffer: &[u8], room: &mut [i32]) -> Piece
     ensures { λ r. ⌜ hearing (fed (r .intake) (now (room .exit))) (r .more)
@@ -40,7 +40,7 @@ fn took(i: Intake, got: isize, buffer: &[u8], room: &mut [i32]) -> Piece
     }
 }
 
-// The whole input. One of more pieces than can be counted is as one that fails.
+// What is known of the text after the whole input. An input of more pieces than can be counted is as one that fails.
 pub fn heard(input: i32, buffer: &mut [u8], room: &mut [i32]) -> Intake
     requires { ⌜ Roomy (now room) ⌝ }
     ensures { λ r. ⌜ AfterSome (now (room .entry)) (hearing (fed r (now (room .exit))) false) ⌝ }

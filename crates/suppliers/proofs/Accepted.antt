@@ -25,11 +25,11 @@ use Rattle.code.specs.Compile.{longRefusal}
 use Rattle.runs.specs.Windows.{windowWidth}
 use Rattle.runs.specs.Schedule.{scheduleWidth}
 use Rattle.runs.proofs.Exactly.{SomeTime}
-use Rattle.suppliers.specs.Windows.{Windowed, windowsBad, windowsShapeBad, windowRefusals, windowsRefusals, windowsVerdict}
+use Rattle.suppliers.specs.Windows.{Windowed, windowsBad, windowsShapeBad, windowRowsRefusals, windowsVerdictRefusals, windowsVerdict}
 use Rattle.suppliers.specs.Schedule.{partBad}
 use Rattle.suppliers.specs.Supplier.{Asked, supplierOf, ownTasks, courseOf, partShapeBad, windowedOf, ownRefusals, partVerdict}
 
--- tables and windows that have their shape; a part that has it
+-- tables and windows that number 1 passes have their shape; so has a part
 pub windows-shaped : (L : Windowed) → windowsShapeBad L ≡ false → shapeBad (L .tables) ≡ false
 unfolding windowsShapeBad
 windows-shaped L e = neither (shapeBad (L .tables)) (badSlice windowWidth maxWindows (L .windows)) e .0
@@ -42,7 +42,7 @@ part-shaped L e = neither (windowsShapeBad (windowedOf L)) (badSlice scheduleWid
 pub windows-accepted : (L : Windowed) → windowsVerdict L ≡ acceptedNumber → programVerdict (L .tables) ≡ acceptedNumber
 unfolding windowsVerdict
 windows-accepted L e =
-    lent-accepted (λ (L : Windowed). L .tables) windowsShapeBad (within (λ L. L .tables) longRefusal ∷ windowRefusals) L (windows-shaped L) e
+    lent-accepted (λ (L : Windowed). L .tables) windowsShapeBad (within (λ L. L .tables) longRefusal ∷ windowRowsRefusals) L (windows-shaped L) e
 
 -- what the verdict on a part asks between number 1 and number 13
 abbrev between : List (Refusal Asked)
@@ -57,7 +57,7 @@ pub part-after : (L : Asked) → windowsVerdict (windowedOf L) ≡ acceptedNumbe
     (orElse (partBad (L .tables) (L .part) (supplierOf L)) scheduleRefused acceptedNumber)
 unfolding partVerdict windowsVerdict partShapeBad windowsShapeBad
 part-after L e =
-    let c = verdict-clear windowsRefusals (windowedOf L) (omega arith) e in
+    let c = verdict-clear windowsVerdictRefusals (windowedOf L) (omega arith) e in
     λ i. orElse (c .0 i || badSlice scheduleWidth maxPart (L .part)) 1
     (verdict-skip between (record { number = scheduleRefused; applies = λ L. partBad (L .tables) (L .part) (supplierOf L) } ∷ [])
     L (c .1) i)
@@ -81,7 +81,7 @@ own-declared T v s m k j l r =
     (sym (member-keep (λ t. eqb (task (programOf T) t .supplier) s) j (dueTasks (mode (programOf T) m) k)) ∙ r) .1)
 
 module _ (L : Asked) (a : partVerdict L ≡ acceptedNumber) where
-  -- the program is accepted
+  -- the program of an accepted part is accepted
   pub part-accepted : programVerdict (L .tables) ≡ acceptedNumber
   unfolding partVerdict
   part-accepted =

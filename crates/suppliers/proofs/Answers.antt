@@ -1,5 +1,5 @@
 -- What a supplier's verdict answers: a number of 1 to 13 without a place, or what the run of each mode comes to; and which of these each
--- answer is. Assumes nothing.
+-- answer is.
 use Prim.Native.Nat.{ℕ, zero, suc, _≤_, _<_}
 use mathlib.Core.Path.{_≡_, refl, sym, ap, subst, _∙_}
 use mathlib.Core.Logic.{_⊎_, inl, inr, ⊎-elim, _↔_}
@@ -16,7 +16,7 @@ use Rattle.suppliers.specs.Schedule.{lastStatic}
 use Rattle.suppliers.specs.Supplier.{Asked, courseOf, answerOf, judged, partRefusals, partVerdict, supplierVerdict}
 use Rattle.suppliers.proofs.Modes.{Answered, answered}
 
--- no place, or 14 or 15
+-- an answer has no place, or its number is 14 or 15
 abbrev Placed : Answer → Type 0
 Placed a = (a ≡ record { number = acceptedNumber; mode = 0; tick = 0 }) ⊎ ((a .number ≡ outsideRefused) ⊎ (a .number ≡ lateRefused))
 
@@ -26,24 +26,24 @@ break-placed i (outside t) d = inr (inl refl)
 break-placed i (late t) d = inr (inr refl)
 
 module _ (L : Asked) where
-  -- a number of 1 to 13 is the answer's, without a place
+  -- a number of 1 to 13 is the answer's number, and the answer has no place
   pub supplier-refused : (n : ℕ) → partVerdict L ≡ n → (n ≡ acceptedNumber → ⊥)
       → record { number = n; mode = 0; tick = 0 } ≡ supplierVerdict L
   unfolding supplierVerdict
   supplier-refused zero e d = absurd (d refl)
   supplier-refused (suc n) e d = rw (e, supplierVerdict)
 
-  -- without one the run decides
+  -- where no number of 1 to 13 is given, the run decides
   pub supplier-judged : partVerdict L ≡ acceptedNumber → judged L ≡ supplierVerdict L
   unfolding supplierVerdict
   supplier-judged e = rw (e, supplierVerdict)
 
-  -- there are no other numbers before the run
+  -- before the run no number above 13 is given
   part-few : partVerdict L ≤ lastStatic
   unfolding partVerdict
   part-few = verdict-among (λ n. n ≤ lastStatic) (omega arith) partRefusals L (omega arith)
 
-  -- nor other answers of it
+  -- an answer of the run has no place, or its number is 14 or 15
   judged-placed : Placed (judged L)
   judged-placed = go (judged L) (answered breaks (length (programOf (L .tables) .modes)) 0)
     where
@@ -63,7 +63,7 @@ module _ (L : Asked) where
       go (inr (inl q)) = absurd (omega (arith, e, q))
       go (inr (inr q)) = absurd (omega (arith, e, q))
 
-  -- n of 1 to 13, without a place: exactly where that number is given before the run
+  -- the answer is n of 1 to 13, without a place, exactly where that number is given before the run
   pub refused-exactly : (n : ℕ) → shapeRefused ≤ n → n ≤ lastStatic → (supplierVerdict L ≡ record { number = n; mode = 0; tick = 0 }) ↔ (partVerdict L ≡ n)
   refused-exactly n l k = (λ e. there (decLt acceptedNumber (partVerdict L)) judged-placed (ap (λ (a : Answer). a .number) e), λ e. sym (supplier-refused n e (λ z. omega arith)))
     where
@@ -73,7 +73,7 @@ module _ (L : Asked) where
           let z : judged L .number ≡ n = ap (λ (a : Answer). a .number) (supplier-judged (omega (arith, h))) ∙ e in
           absurd (⊎-elim (λ q. omega (arith, z, ap (λ (a : Answer). a .number) q)) (λ r. ⊎-elim (λ q. omega (arith, z, q)) (λ q. omega (arith, z, q)) r) p)
 
-  -- any other answer: exactly where none is, and the run comes to it
+  -- the answer is any other exactly where no number of 1 to 13 is given, and the run comes to it
   pub judged-exactly : (a : Answer) → (a .number ≡ acceptedNumber) ⊎ (lastStatic < a .number) → (supplierVerdict L ≡ a) ↔ ((partVerdict L ≡ acceptedNumber) × (judged L ≡ a))
   judged-exactly a o = (λ e. there (decLt acceptedNumber (partVerdict L)) e o, λ w. sym (supplier-judged (w .0)) ∙ w .1)
     where
@@ -83,7 +83,7 @@ module _ (L : Asked) where
           absurd (⊎-elim (λ q. omega (arith, h, z, q)) (λ q. omega (arith, part-few, z, q)) o)
       there (no h) e o = let z : partVerdict L ≡ acceptedNumber = omega (arith, h) in (z, supplier-judged z ∙ e)
 
-  -- a number of 1 to 13 or none has no place; else it is 14 or 15
+  -- the answer's number is 0 to 13, without a place, or it is 14 or 15
   pub only-these : ((supplierVerdict L .number ≤ lastStatic) × (supplierVerdict L .mode ≡ 0) × (supplierVerdict L .tick ≡ 0))
       ⊎ ((supplierVerdict L .number ≡ outsideRefused) ⊎ (supplierVerdict L .number ≡ lateRefused))
   only-these = go (decLt acceptedNumber (partVerdict L))

@@ -16,7 +16,8 @@ use Rattle.cells.specs.Cell.{cellAt, indexOf, numAt, nameOf, nameAt}
 use Rattle.cells.specs.Limits.{suppliers}
 use Rattle.program.specs.Tables.{Tables, taskCount, taskSupplier}
 use Rattle.code.specs.Compile.{listingOf, delayAt}
-use Rattle.runs.specs.Schedule.{scheduleWidth, supplierColumn, addressColumn, kindColumn, taskColumn, timeoutColumn, scheduleCount, rowSupplier, rowAddress, rowKind, rowTask, rowTimeout, kindOf, rowOf, Sorted}
+use Rattle.runs.specs.Schedule.{scheduleWidth, supplierColumn, addressColumn, kindColumn, taskColumn, timeoutColumn, scheduleCount}
+use Rattle.runs.specs.Schedule.{rowSupplier, rowAddress, rowKind, rowTask, rowTimeout, kindOf, rowOf, Sorted}
 use Rattle.suppliers.specs.Schedule.{RowFits, Rows}
 
 -- row i of S has the cells of row j of R
@@ -24,36 +25,36 @@ abbrev pub SameRow : List ℤ → ℕ → List ℤ → ℕ → Type 0
 SameRow S i R j = (c : ℕ) → c < scheduleWidth → cellAt S (i * scheduleWidth + c) ≡ cellAt R (j * scheduleWidth + c)
 
 module _ (S : List ℤ) (i : ℕ) (R : List ℤ) (j : ℕ) (h : SameRow S i R j) where
-  -- its supplier is the same
+  -- rows that have the same cells have the same supplier
   pub same-supplier : rowSupplier S i ≡ rowSupplier R j
   unfolding numAt
   same-supplier = ap indexOf (h supplierColumn (omega arith))
 
-  -- its address
+  -- rows that have the same cells have the same address
   pub same-address : rowAddress S i ≡ rowAddress R j
   unfolding numAt
   same-address = ap indexOf (h addressColumn (omega arith))
 
-  -- its kind
+  -- rows that have the same cells have the same kind
   same-kind : rowKind S i ≡ rowKind R j
   unfolding numAt
   same-kind = ap indexOf (h kindColumn (omega arith))
 
-  -- its task
+  -- rows that have the same cells have the same task
   same-task : rowTask S i ≡ rowTask R j
   unfolding nameAt numAt
   same-task = ap (λ z. nameOf (indexOf z)) (h taskColumn (omega arith))
 
-  -- its timeout
+  -- rows that have the same cells have the same timeout
   same-timeout : rowTimeout S i ≡ rowTimeout R j
   unfolding numAt
   same-timeout = ap indexOf (h timeoutColumn (omega arith))
 
-  -- and so the row as a tick reads it
+  -- rows that have the same cells are the same to a tick
   pub same-row : rowOf S i ≡ rowOf R j
   same-row = λ k. record { kind = kindOf (same-kind k); job = same-task k; timeout = same-timeout k }
 
-  -- it fits where the other does
+  -- a row that has the cells of a row that fits fits too
   same-fits : (T : Tables) → RowFits T R j → RowFits T S i
   same-fits T f = record {
     supplier = subst (λ n. n < suppliers) (sym same-supplier) (f .supplier);
@@ -75,25 +76,25 @@ FromEither xs ys n i =
     ((i < scheduleCount xs) × SameRow (xs ++ ys) i xs i) ⊎ ((k : ℕ) × (i ≡ n + k) × (k < scheduleCount ys) × SameRow (xs ++ ys) i ys k)
 
 module _ (xs ys : List ℤ) (n : ℕ) (e : length xs ≡ n * scheduleWidth) where
-  -- the first has n rows
+  -- the first schedule has n rows
   pub first-count : scheduleCount xs ≡ n
   first-count = omega arith
 
-  -- both together have as many as each
+  -- both schedules together have as many rows as each has
   pub appended-count : scheduleCount (xs ++ ys) ≡ n + scheduleCount ys
   appended-count = omega (arith, length-append xs ys)
 
-  -- a row before the end of the first is a row of it
+  -- a row before the end of the first schedule is a row of the first
   row-first : (i : ℕ) → i < n → SameRow (xs ++ ys) i xs i
   row-first i l c m = List·getD-append xs ys (pos 0) (i * scheduleWidth + c) (omega arith)
 
-  -- one after it is a row of the second
+  -- a row after the end of the first schedule is a row of the second
   row-second : (i k : ℕ) → i ≡ n + k → SameRow (xs ++ ys) i ys k
   row-second i k q c m =
       let z : i * scheduleWidth + c ≡ length xs + (k * scheduleWidth + c) = omega arith in
       ap (cellAt (xs ++ ys)) z ∙ getD-append-add xs ys (k * scheduleWidth + c) (pos 0)
 
-  -- a row is one or the other
+  -- a row of both together is a row of the first or of the second
   pub row-either : (i : ℕ) → i < scheduleCount (xs ++ ys) → FromEither xs ys n i
   row-either i l = go (decLt i n)
     where
@@ -103,7 +104,7 @@ module _ (xs ys : List ℤ) (n : ℕ) (e : length xs ≡ n * scheduleWidth) wher
           let q : i ≡ n + (i - n) = omega arith in
           inr (i - n, q, omega (arith, appended-count), row-second i (i - n) q)
 
-  -- those that pass a test that asks for a row's cells alone are those of the first, and then those of the second
+  -- the rows that pass a test that asks for a row's cells alone are those of the first, and then those of the second
   pub appended-those : {A : Type 0} (p : List ℤ → ℕ → Bool) (row : List ℤ → ℕ → A)
       → ((S : List ℤ) (i : ℕ) (R : List ℤ) (j : ℕ) → SameRow S i R j → (p S i ≡ p R j) × (row S i ≡ row R j))
       → those (p (xs ++ ys)) (row (xs ++ ys)) (scheduleCount (xs ++ ys)) 0
@@ -118,7 +119,7 @@ module _ (xs ys : List ℤ) (n : ℕ) (e : length xs ≡ n * scheduleWidth) wher
       (those-moved (p (xs ++ ys)) (p ys) (row (xs ++ ys)) (row ys) (scheduleCount ys) (0 + scheduleCount xs) 0
       (λ k l. same (xs ++ ys) (0 + scheduleCount xs + k) ys (0 + k) (row-second (0 + scheduleCount xs + k) (0 + k) (omega (arith, first-count)))))
 
-  -- rows that fit and are sorted, those of the first of lower suppliers
+  -- both together are rows that fit and are sorted, where each are so and those of the first are of lower suppliers
   pub appended-rows : (T : Tables) → Rows T xs → Rows T ys
       → ((i j : ℕ) → i < scheduleCount xs → j < scheduleCount ys → rowSupplier xs i < rowSupplier ys j) → Rows T (xs ++ ys)
   appended-rows T f g lower = record {
@@ -139,7 +140,7 @@ module _ (xs ys : List ℤ) (n : ℕ) (e : length xs ≡ n * scheduleWidth) wher
           (rowSupplier (xs ++ ys) j ≤ rowSupplier (xs ++ ys) i)
           × (rowSupplier (xs ++ ys) j ≡ rowSupplier (xs ++ ys) i → rowAddress (xs ++ ys) j ≤ rowAddress (xs ++ ys) i)
 
-      -- rows j′ and i′ of one schedule
+      -- two rows that are rows of one sorted schedule are in order
       within : (R : List ℤ) → Sorted R → (j i j′ i′ : ℕ) → SameRow (xs ++ ys) j R j′ → SameRow (xs ++ ys) i R i′
           → j′ < i′ → i′ < scheduleCount R → Ordered j i
       within R o j i j′ i′ a b l m = (

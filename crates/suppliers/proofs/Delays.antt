@@ -21,7 +21,8 @@ use Rattle.layout.specs.Delays.{delayNumber, marked}
 use Rattle.layout.proofs.Delay.{table-exact, delay-in-range}
 use Rattle.layout.proofs.Marks.{listing-marked}
 use Rattle.runs.specs.Schedule.{scheduleCount, rowSupplier, rowAddress, rowTimeout}
-use Rattle.suppliers.specs.Schedule.{inDelay, delayFits, Tabled, dispatchFits, idleFits, precedes, rowWrong, rowsBad, partBad, rowCount, joinedBad}
+use Rattle.suppliers.specs.Schedule.{inDelay, delayFits, Tabled, dispatchFits, idleFits, precedes, rowWrong, rowsBad, partBad}
+use Rattle.suppliers.specs.Schedule.{rowCount, joinedBad}
 use Rattle.suppliers.specs.Delays.{countedDelays, rowWrongBy, partBadBy, joinedBadBy}
 
 -- a word that is the delay, and 0 where there is none, is read as the delay is, since no delay is 0
@@ -31,13 +32,13 @@ word-says timeout word none e h = ap (λ (n : ℕ). ltb 0 n && leb timeout n) e
 word-says timeout word (some d) e h =
     ap (λ (n : ℕ). ltb 0 n && leb timeout n) e ∙ ap (λ (b : Bool). b && leb timeout d) (lt-ltb 0 d (h d refl))
 
--- the table of the listing
+-- the table that has the delays of the listing says what the listing says
 table-says : (T : Tables) → programVerdict T ≡ acceptedNumber → CodeFits T → Tabled T (marked (listingOf T) 0 (replicate maxCode 0))
 unfolding delayFits
 table-says T v l a timeout =
     word-says timeout _ (delayAt (listingOf T) a) (table-exact (listingOf T) l a) (λ d e. delay-in-range T v a d e .0)
 
--- the one that is counted
+-- the table of delays that is counted from the tables says what the listing says
 counted-says : (T : Tables) → programVerdict T ≡ acceptedNumber → CodeFits T → Tabled T (countedDelays T)
 counted-says T v l = subst (Tabled T) (listing-marked T _ (ap length (sym (sensors-rows T))) v (replicate maxCode 0)) (table-says T v l)
 
@@ -49,17 +50,17 @@ module _ (T : Tables) (v : programVerdict T ≡ acceptedNumber) (l : CodeFits T)
       ap (λ (b : Bool). not (ltb (rowSupplier S i) suppliers && (dispatchFits T S i || idleFits S i) && b) || precedes S i (i - 1))
       (counted-says T v l (rowAddress S i) (rowTimeout S i))
 
-  -- so is some row
+  -- some row is wrong by the counted delays exactly where one is by the listing
   rows-counted : any (rowWrongBy T (countedDelays T) S) (scheduleCount S) ≡ rowsBad T S
   unfolding rowsBad
   rows-counted = λ j. any (λ i. wrong-counted i j) (scheduleCount S)
 
-  -- so a part is refused as it is by the listing
+  -- a part is refused by the counted delays as by the listing
   pub part-counted : (s : ℕ) → partBadBy T (countedDelays T) S s ≡ partBad T S s
   unfolding partBadBy partBad
   part-counted s = ap (λ (b : Bool). b || any (λ i. not (eqb (rowSupplier S i) s)) (scheduleCount S) || leb suppliers s) rows-counted
 
-  -- and the joined schedule
+  -- the joined schedule is refused by the counted delays as by the listing
   pub joined-counted : joinedBadBy T (countedDelays T) S ≡ joinedBad T S
   unfolding joinedBadBy joinedBad
   joined-counted = ap (λ (b : Bool). b || any (λ s. ltb maxPart (rowCount S s)) suppliers) rows-counted

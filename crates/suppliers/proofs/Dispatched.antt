@@ -36,6 +36,6 @@ module _ (T : Tables) (S : List ℤ) (f : Rows T S) (s a : ℕ) where
       block-rows (λ t. task (programOf T) t .supplier ≡ s)
       (λ i d e. ap (λ (t : Task). t .supplier) (task-row T (rowTask S i) (d .task)) ∙ d .own ∙ e)
 
-  -- and of a declared one
+  -- every dispatch of a supplier's block is of a declared task
   pub declared-rows : OwnRows (λ t. t < taskCount T) (blockOf S s a)
   declared-rows = block-rows (λ t. t < taskCount T) (λ i d e. d .task)

@@ -30,7 +30,7 @@ use Rattle.suppliers.proofs.Schedule.{part-bars}
 use Rattle.suppliers.proofs.Accepted.{windows-accepted, part-after}
 use Rattle.suppliers.proofs.Judged.{good-accepted}
 
--- a part without rows passes 13
+-- a part without rows passes number 13
 no-rows : (T : Tables) (s : ℕ) → s < suppliers → Part T [] s
 no-rows T s l = record {
   rows = record {
@@ -62,14 +62,14 @@ module _ (T : Tables) (W : List ℤ) (s : ℕ) (accepted : programVerdict T ≡ 
       let declared = due-declared T accepted m k t l d in
       no-tasks t declared (sym (ap (λ (K : Task). K .supplier) (task-row T t declared)) ∙ o)
 
-  -- so its run is good in every mode
+  -- the run of a supplier of which no task is due, and that has no rows, is good in every mode
   idle-good : (m : ℕ) → m < modeCount T → Good (course P W [] s m) (worstCase (course P W [] s m)) nothing
   idle-good m l = record {
     inside = λ k e _ _ r. absurd (nothing-runs e (alone (course P W [] s m) (worstCase (course P W [] s m)) nothing k e) r);
     ends = λ k t _ e. absurd (none-due m (nextUnit (mode P m) k) t l e);
   }
 
--- so it is accepted
+-- a supplier without tasks and rows is accepted
 pub idle-accepted : (L : Asked) → windowsVerdict (windowedOf L) ≡ acceptedNumber → supplierOf L < suppliers → L .part ≡ []
     → ((t : ℕ) → t < taskCount (L .tables) → taskSupplier (L .tables) t ≡ supplierOf L → ⊥)
     → supplierVerdict L ≡ record { number = acceptedNumber; mode = 0; tick = 0 }

@@ -28,7 +28,7 @@ use Rattle.suppliers.proofs.Appended.{SameRow, same-supplier, same-addr
 abbrev picked : {A : Type 0} → (List ℤ → ℕ → Bool) → (List ℤ → ℕ → A) → List ℤ → List A
 picked p row S = those (p S) (row S) (scheduleCount S) 0
 
--- the first n parts: whole rows that fit and are sorted, of suppliers below n
+-- the first n parts, joined, are whole rows that fit and are sorted, of suppliers below n
 record First (T : Tables) (parts : ℕ → List ℤ) (n : ℕ) : Type 0 where
   count : ℕ
   is-whole : length (cat parts n) ≡ count * scheduleWidth
@@ -38,7 +38,7 @@ record First (T : Tables) (parts : ℕ → List ℤ) (n : ℕ) : Type 0 where
 
 module _ (T : Tables) (parts : ℕ → List ℤ) (fits : (s : ℕ) → s < suppliers → Part T (parts s) s)
     (whole : (s : ℕ) → s < suppliers → WholeRows scheduleWidth maxPart (parts s)) where
-  -- so are the first n of parts that pass
+  -- the first n of parts that pass number 13, joined, are such rows
   first-parts : (n : ℕ) → n ≤ suppliers → First T parts n
   first-parts zero l = record {
     count = 0;
@@ -65,20 +65,20 @@ module _ (T : Tables) (parts : ℕ → List ℤ) (fits : (s : ℕ) → s < suppl
             (row-either (cat parts n) (parts n) (f .count) (f .is-whole) i u);
       }
 
-  -- a test that asks for a row's cells alone, and that only rows of supplier s pass
+  -- `p` is a test that asks for a row's cells alone, and that only rows of supplier s pass
   module _ {A : Type 0} (s : ℕ) (p : List ℤ → ℕ → Bool) (row : List ℤ → ℕ → A)
       (same : (S : List ℤ) (i : ℕ) (R : List ℤ) (j : ℕ) → SameRow S i R j → (p S i ≡ p R j) × (row S i ≡ row R j))
       (own : (S : List ℤ) (i : ℕ) → p S i ≡ true → rowSupplier S i ≡ s) where
-    -- none where no row is of s
+    -- no row passes where none is of supplier s
     none-picked : (S : List ℤ) → ((i : ℕ) → i < scheduleCount S → rowSupplier S i ≡ s → ⊥) → picked p row S ≡ []
     none-picked S h =
         those-none (p S) (row S) (scheduleCount S) 0 (λ i _ l. is-false (says-itself (p S i)) (λ q. h i (omega arith) (own S i q)))
 
-    -- with one part more, those of it too
+    -- where one part more is joined, its rows that pass are added
     picked-more : (n : ℕ) → n < suppliers → picked p row (cat parts (suc n)) ≡ picked p row (cat parts n) ++ picked p row (parts n)
     picked-more n l = let f = first-parts n (omega arith) in appended-those (cat parts n) (parts n) (f .count) (f .is-whole) p row same
 
-    -- of the first parts, those of s pass
+    -- of the first parts, joined, just the rows of the part of s pass
     picked-part : (n : ℕ) → n ≤ suppliers → s < n → picked p row (cat parts n) ≡ picked p row (parts s)
     picked-part zero l m = absurd (omega arith)
     picked-part (suc n) l m = picked-more n (omega arith) ∙ go (ℕ-discrete s n) (picked-part n (omega arith))
@@ -100,7 +100,7 @@ module _ (T : Tables) (parts : ℕ → List ℤ) (fits : (s : ℕ) → s < suppl
       (λ S i R j h. (λ k. eqb (same-supplier S i R j h k) s && eqb (same-address S i R j h k) a, same-row S i R j h))
       (λ S i h. (says-eq (rowSupplier S i) s and says-eq (rowAddress S i) a) .yes h .0) suppliers (omega arith) l
 
-  -- and so is its course
+  -- a supplier's course in the joined schedule is that of its part
   pub joined-course : (W : List ℤ) (s m : ℕ) → s < suppliers
       → course (programOf T) W (cat parts suppliers) s m ≡ course (programOf T) W (parts s) s m
   joined-course W s m l = λ i. record {
@@ -136,6 +136,6 @@ module _ (T : Tables) (parts : ℕ → List ℤ) (fits : (s : ℕ) → s < suppl
     );
   }
 
-  -- it has its shape
+  -- the joined schedule has its shape
   pub joined-whole : WholeRows scheduleWidth maxSchedule (cat parts suppliers)
   joined-whole = let f = first-parts suppliers (omega arith) in (f .count, f .is-whole, omega (arith, f .few))

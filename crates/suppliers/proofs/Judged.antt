@@ -12,12 +12,12 @@ use Rattle.suppliers.specs.Supplier.{Asked, courseOf, answerFrom, judged
 use Rattle.suppliers.proofs.Modes.{answer-none}
 use Rattle.suppliers.proofs.Answers.{supplier-judged}
 
--- the run of an asked supplier, mode by mode
+-- the run of an asked supplier is judged mode by mode
 pub judged-modes : (L : Asked) → judged L ≡ answerFrom (λ m. worstBreak (courseOf L m) nothing) (modeCount (L .tables)) 0
 judged-modes L = ap (λ n. answerFrom (λ m. worstBreak (courseOf L m) nothing) n 0) (mode-count (L .tables))
 
 module _ (L : Asked) (a : partVerdict L ≡ acceptedNumber) where
-  -- accepted where every worst-case run is good
+  -- a supplier is accepted where its worst-case run in every mode is good
   pub good-accepted : ((m : ℕ) → m < modeCount (L .tables) → Good (courseOf L m) (worstCase (courseOf L m)) nothing)
       → supplierVerdict L ≡ record { number = acceptedNumber; mode = 0; tick = 0 }
   good-accepted g =

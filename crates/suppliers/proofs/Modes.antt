@@ -1,5 +1,4 @@
 -- The answer over the modes: the first mode whose run breaks, with its break, or that none breaks.
--- Assumes nothing.
 use Prim.Native.Nat.{ℕ, zero, suc, _+_, _≤_, _<_}
 use mathlib.Core.Path.{_≡_, refl, sym, ap, subst, subst₂, _∙_}
 use mathlib.Core.Logic.{_⊎_, inl, inr, _↔_}
@@ -15,7 +14,7 @@ use Rattle.suppliers.specs.declared.Answer.{Answer}
 abbrev pub AllGood : (ℕ → Break) → ℕ → ℕ → Type 0
 AllGood breaks n m = (i : ℕ) → m ≤ i → i < m + n → breaks i ≡ none
 
--- mode i of these is the first whose run breaks, and b is its break
+-- mode i of the n modes from m on is the first whose run breaks, and b is its break
 pub record BreaksFirst (breaks : ℕ → Break) (n m i : ℕ) (b : Break) : Type 0 where
   pub from : m ≤ i
   pub below : i < m + n
@@ -23,7 +22,7 @@ pub record BreaksFirst (breaks : ℕ → Break) (n m i : ℕ) (b : Break) : Type
   pub break : breaks i ≡ b
   pub is-break : b ≡ none → ⊥
 
--- what the answer is
+-- what an answer on the n modes from m on says: no run breaks, or which is the first that does
 abbrev pub Answered : (ℕ → Break) → ℕ → ℕ → Answer → Type 0
 Answered breaks n m a =
     (AllGood breaks n m × (a ≡ answerOf 0 none)) ⊎ ((i : ℕ) × (b : Break) × BreaksFirst breaks n m i b × (a ≡ answerOf i b))

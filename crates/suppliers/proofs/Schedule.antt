@@ -1,5 +1,5 @@
 -- Number 13: the tests of schedule rows, of one supplier's part and of the joined schedule bar their claims.
--- Assumes nothing: where neighbours are in order any two rows are, and row 0, whose row above is itself, does not come before itself.
+-- Where neighbours are in order any two rows are, and row 0, whose row above is itself, does not come before itself.
 use Prim.Native.Nat.{ℕ, zero, suc, _-_, _≤_, _<_}
 use mathlib.Core.Path.{_≡_, refl, sym, subst}
 use mathlib.Core.Bool.{false}
@@ -9,15 +9,17 @@ use native.Mathlib.Omega.{arith}
 use native.Mathlib.Decide.{ℕ-discrete}
 use lib.IntN.{ℤ}
 use Rattle.theory.specs.Claim.{Says, Bars}
-use Rattle.theory.proofs.Bools.{clash, says-eq, says-lt, says-le, says-or, says-as, bars-not, bars-and, bars-as, bars-lt, bars-le, _and_, _or_}
+use Rattle.theory.proofs.Bools.{clash, says-eq, says-lt, says-le, says-or, says-as, bars-not, bars-and, bars-as, bars-lt, bars-le, _and_}
+use Rattle.theory.proofs.Bools.{_or_}
 use Rattle.theory.proofs.Search.{bars-any}
 use Rattle.cells.specs.Limits.{suppliers, maxPart}
 use Rattle.program.specs.Tables.{Tables}
 use Rattle.code.specs.Compile.{listingOf, delayAt}
 use Rattle.runs.specs.Schedule.{scheduleCount, rowSupplier, rowAddress, rowTimeout}
-use Rattle.suppliers.specs.Schedule.{inDelay, dispatchFits, idleFits, precedes, rowWrong, rowsBad, partBad, rowCount, joinedBad, Dispatches, Idles, RowFits, Rows, Part, Joined}
+use Rattle.suppliers.specs.Schedule.{inDelay, dispatchFits, idleFits, precedes, rowWrong, rowsBad, partBad, rowCount, joinedBad}
+use Rattle.suppliers.specs.Schedule.{Dispatches, Idles, RowFits, Rows, Part, Joined}
 
--- there is a delay, and the timeout is within it
+-- the test of a timeout says whether there is a delay, and the timeout is within it
 delay-says : (o : Option ℕ) (t : ℕ) → Says (inDelay o t) ((d : ℕ) × (o ≡ some d) × (t ≤ d))
 delay-says none t = record { yes = λ e. clash {b = false} e refl; no = λ e w. absurd (let z : _≡_ {A = ℕ} 0 1 = cc (w .1) in omega arith) }
 delay-says (some d) t = says-as (says-le t d) (λ l. (d, refl, l)) (λ w. let e : d ≡ w .0 = cc (w .1) in omega (arith, w .2))
@@ -49,7 +51,7 @@ module _ (T : Tables) (S : List ℤ) where
       (λ f. ((f .supplier, f .action), (f .delay, f .holds-future, f .timeout))))
       or precedes-bars i (i - 1)
 
-  -- neighbours in order, so any two rows
+  -- where neighbours are in order, any two rows are
   all-ordered : (n : ℕ) → ((i : ℕ) → i < n → Ordered (i - 1) i) → (j i : ℕ) → j < i → i < n → Ordered j i
   unfolding Ordered
   all-ordered n h j zero l m = absurd (omega arith)
@@ -85,14 +87,14 @@ module _ (T : Tables) (S : List ℤ) where
           let e : i ≡ suc i - 1 = omega arith in
           subst (λ k. Ordered k (suc i)) e (r .sorted .by-supplier i (suc i) (omega arith) l, λ q. r .sorted .by-address i (suc i) (omega arith) l (sym q))
 
-  -- in one supplier's part it bars rows of that supplier
+  -- number 13 of one supplier's part bars rows that fit, are sorted and are of that supplier
   pub part-bars : (s : ℕ) → Bars (partBad T S s) (Part T S s)
   unfolding partBad
   part-bars s =
       bars-as (rows-bar-schedule or bars-any _ _ (λ i. bars-not (says-eq (rowSupplier S i) s)) (scheduleCount S) or bars-le suppliers s)
       (λ ((r, o), l). record { rows = r; own = o; supplier = l }) (λ p. ((p .rows, p .own), p .supplier))
 
-  -- in the joined schedule it bars no more rows of one supplier than the limit
+  -- number 13 of the joined schedule bars rows that fit and are sorted, of each supplier no more than the limit
   pub joined-bars : Bars (joinedBad T S) (Joined T S)
   unfolding joinedBad
   joined-bars =

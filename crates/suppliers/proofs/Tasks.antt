@@ -21,7 +21,8 @@ use Rattle.program.specs.Units.{rowMisses, isMultiple, units}
 use Rattle.program.specs.Program.{Program, Switch, programOf, task, taskRow, mode, enteredUnit, nextUnit, dueSwitches, dueTasks}
 use Rattle.program.proofs.Decoded.{task-row}
 use Rattle.code.specs.Op.{jump}
-use Rattle.code.specs.Listing.{callDriver, blockAddress, entryAddress, futureAddress, headOf, testsOf, bodyOf, endOf, stubsOf, blockCode, listing}
+use Rattle.code.specs.Listing.{callDriver, blockAddress, entryAddress, futureAddress, headOf, testsOf, bodyOf, endOf, stubsOf, blockCode}
+use Rattle.code.specs.Listing.{listing}
 use Rattle.code.specs.Compile.{listingOf, delayAt}
 use Rattle.runs.specs.Schedule.{scheduleCount, rowSupplier, rowAddress, rowKind, rowTask, rowTimeout, kindDispatch}
 use Rattle.runs.specs.Windows.{inWindow}
@@ -54,12 +55,12 @@ listing-other P Q = λ i. jump (blockAddress P (P .start) 0) ∷ cat (λ m. cat 
         ++ (endOf P m k
         ++ stubs-other P Q k (dueSwitches (mode P m) k) i)))
 
--- so the listing of the tables uses nothing of their tasks
+-- the listing of the tables uses nothing of their tasks
 pub listing-tasks : (T : Tables) (x : List ℤ) → listingOf T ≡ listingOf (withTasks T x)
 unfolding listingOf units isMultiple rowMisses isKind
 listing-tasks T x = listing-other (programOf T) (programOf (withTasks T x))
 
--- what no row declares
+-- a task that no row declares has supplier 0, no time and no ports
 no-task : (T : Tables) (t : ℕ) → taskCount T ≤ t → task (programOf T) t ≡ record { supplier = 0; worst = 0; inputs = []; outputs = [] }
 no-task T t l = List·getD-eq-default (programOf T .tasks) (record { supplier = 0; worst = 0; inputs = []; outputs = [] }) {n = t} (rw (each-length (taskRow T) (taskCount T) 0) l)
 
@@ -69,7 +70,7 @@ module _ (T : Tables) (x : List ℤ) (s : ℕ) (as-many : length (T .tasks) ≡ 
   count : taskCount T ≡ taskCount (withTasks T x)
   count = ap (λ n. n / taskWidth) as-many
 
-  -- a schedule's rows are as good
+  -- a schedule has a wrong row exactly where it has one with the other tasks
   rows-tasks : (S : List ℤ) → rowsBad T S ≡ rowsBad (withTasks T x) S
   unfolding rowsBad rowWrong dispatchFits
   rows-tasks S = λ k. any (λ i. wrong i k) (scheduleCount S)
@@ -82,7 +83,7 @@ module _ (T : Tables) (x : List ℤ) (s : ℕ) (as-many : length (T .tasks) ≡ 
           && inDelay (delayAt (listing-tasks T x k) (rowAddress S i)) (rowTimeout S i))
           || precedes S i (i - 1)
 
-  -- number 13 says the same of a part
+  -- number 13 says the same of a part with the other tasks
   pub part-tasks : (S : List ℤ) (r : ℕ) → partBad T S r ≡ partBad (withTasks T x) S r
   unfolding partBad
   part-tasks S r = λ k. rows-tasks S k || any (λ i. not (eqb (rowSupplier S i) r)) (scheduleCount S) || leb suppliers r
@@ -97,7 +98,7 @@ module _ (T : Tables) (x : List ℤ) (s : ℕ) (as-many : length (T .tasks) ≡ 
       go (yes l) = rw (task-row T t l, task-row (withTasks T x) t (omega (arith, count))) (same-supplier t, same-worst t)
       go (no l) = rw (no-task T t (omega arith), no-task (withTasks T x) t (omega (arith, count))) (refl, λ e. refl)
 
-  -- so the tasks of s are the same
+  -- the tasks of s among some tasks are the same
   own-same : (ts : List ℕ) → ownTasks (programOf T) s ts ≡ ownTasks (programOf (withTasks T x)) s ts
   own-same ts = λ i. keep (λ t. eqb (task-same t .0 i) s) ts
 
@@ -120,7 +121,7 @@ module _ (T : Tables) (x : List ℤ) (s : ℕ) (as-many : length (T .tasks) ≡ 
     window = w;
   }
 
-  -- and so is the first break of its worst-case run
+  -- the first break of the worst-case run of s is the same
   pub break-tasks : (W X S : List ℤ) (m : ℕ) → inWindow W s m ≡ inWindow X s m
       → worstBreak (course (programOf T) W S s m) nothing ≡ worstBreak (course (programOf (withTasks T x)) X S s m) nothing
   unfolding units isMultiple rowMisses

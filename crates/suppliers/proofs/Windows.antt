@@ -1,4 +1,4 @@
--- Number 12: the test of the windows bars windows that fit and share no tick. Assumes nothing: the test of a shared tick is exact where no
+-- Number 12: the test of the windows bars windows that fit and share no tick. The test of a shared tick is exact where no
 -- window is empty, and a window that is empty is refused too. And a tick lies in one supplier's windows: assumes that they share no tick.
 use Prim.Native.Nat.{ℕ, _<_}
 use mathlib.Core.Path.{_≡_, sym, ap, _∙_}
@@ -12,7 +12,7 @@ use Rattle.theory.specs.Search.{any}
 use Rattle.theory.proofs.Bools.{is-true, says-lt, says-le, says-as, says-itself, bars-not, bars-says, bars-as, _and_, _or_}
 use Rattle.theory.proofs.Search.{any-at, lowest, bars-any}
 use Rattle.program.specs.Tables.{Tables}
-use Rattle.runs.specs.Windows.{windowCount, winSupplier, inWindow, shareTick, InWindow}
+use Rattle.runs.specs.Windows.{windowCount, windowSupplier, inWindow, shareTick, InWindow}
 use Rattle.runs.proofs.Windows.{in-window-says, share-says}
 use Rattle.suppliers.specs.Windows.{Windowed, windowWrong, windowsBad, WindowFits, Windows}
 
@@ -55,4 +55,4 @@ windows-one L w s r m t p q =
     go a b (yes l) d = absurd (w .apart (b .row) (a .row) m t l (b .in-table) (b .has) (a .has))
     go a b (no l) (yes k) = absurd (w .apart (a .row) (b .row) m t k (a .in-table) (a .has) (b .has))
     go a b (no l) (no k) =
-        let e : a .row ≡ b .row = omega arith in sym (a .owner) ∙ ap (winSupplier (L .windows)) e ∙ b .owner
+        let e : a .row ≡ b .row = omega arith in sym (a .owner) ∙ ap (windowSupplier (L .windows)) e ∙ b .owner

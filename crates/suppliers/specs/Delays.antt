@@ -1,5 +1,5 @@
 -- Number 13 as the code asks it: the rows held against a table of delays, whatever stands in it, and against the one that is counted
--- from the program's tables. Assumes nothing.
+-- from the program's tables.
 use Prim.Native.Nat.{ℕ}
 use mathlib.Core.Bool.{Bool}
 use mathlib.Core.List.{List}
@@ -17,14 +17,14 @@ use Rattle.suppliers.specs.Schedule.{delayFits, wrongRow, badPart, badJo
 abbrev pub countedDelays : Tables → List ℕ
 countedDelays T = modesMarked T (length (sensorRows (T .ports) (λ p. p))) (modeCount T) (replicate maxCode 0)
 
--- row i is wrong
+-- row i breaks number 13, by a table of delays
 unfoldable pub rowWrongBy : Tables → List ℕ → List ℤ → ℕ → Bool
 rowWrongBy T delays S i = wrongRow (delayFits delays) T S i
 
--- the part of supplier s
+-- the part of supplier s breaks number 13, by a table of delays
 unfoldable pub partBadBy : Tables → List ℕ → List ℤ → ℕ → Bool
 partBadBy T delays S s = badPart (any (rowWrongBy T delays S) (scheduleCount S)) S s
 
--- the joined schedule
+-- the joined schedule breaks number 13, by a table of delays
 unfoldable pub joinedBadBy : Tables → List ℕ → List ℤ → Bool
 joinedBadBy T delays S = badJoined (any (rowWrongBy T delays S) (scheduleCount S)) S

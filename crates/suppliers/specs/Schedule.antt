@@ -1,6 +1,6 @@
 -- Number 13, schedule: a field out of range; not sorted by supplier, then address; the address holds no `future` of the
 -- compiled code; a timeout outside 0..that delay; a dispatch of another supplier's task; in one supplier's part, a row of
--- another; over 256 rows of one supplier in the joined schedule. Assumes nothing.
+-- another; over 256 rows of one supplier in the joined schedule.
 use Prim.Native.Nat.{ℕ, _-_, _≤_, _<_}
 use mathlib.Core.Path.{_≡_}
 use mathlib.Core.Bool.{Bool, false, not, _&&_, _||_}
@@ -24,20 +24,20 @@ use Rattle.runs.specs.Schedule.{scheduleCount, rowSupplier, rowAddress, rowKind
 abbrev pub lastStatic : ℕ
 lastStatic = scheduleRefused
 
--- the timeout is within the delay, if there is one
+-- there is a delay, and the timeout is within it
 abbrev pub inDelay : Option ℕ → ℕ → Bool
 inDelay none timeout = false
 inDelay (some d) timeout = leb timeout d
 
--- the same in a table of delays that has 0 where there is none
+-- a table of delays has a delay at address a, and the timeout is within it; 0 stands where there is no delay
 unfoldable pub delayFits : List ℕ → ℕ → ℕ → Bool
 delayFits delays a timeout = ltb 0 (wordAt delays a) && leb timeout (wordAt delays a)
 
--- the table says just that of the listing
+-- a table of delays says of every address and timeout what the listing says
 abbrev pub Tabled : Tables → List ℕ → Type 0
 Tabled T delays = (a timeout : ℕ) → delayFits delays a timeout ≡ inDelay (delayAt (listingOf T) a) timeout
 
--- a dispatch of a task of the row's supplier, or an idle row, which has task 0
+-- row i is a dispatch of a declared task of the row's supplier (`dispatchFits`), or an idle row and has task 0 (`idleFits`)
 unfoldable pub dispatchFits : Tables → List ℤ → ℕ → Bool
 dispatchFits T S i =
     eqb (rowKind S i) kindDispatch && ltb (rowTask S i) (taskCount T) && eqb (taskSupplier T (rowTask S i)) (rowSupplier S i)
@@ -45,7 +45,7 @@ dispatchFits T S i =
 unfoldable pub idleFits : List ℤ → ℕ → Bool
 idleFits S i = eqb (rowKind S i) kindIdle && eqb (rowTask S i) 0
 
--- row i comes before row j, by supplier, then address
+-- row i comes before row j in the order of supplier, then address
 unfoldable pub precedes : List ℤ → ℕ → ℕ → Bool
 precedes S i j =
     ltb (rowSupplier S i) (rowSupplier S j)
@@ -61,30 +61,33 @@ wrongRow within T S i =
     && within (rowAddress S i) (rowTimeout S i))
     || precedes S i (i - 1)
 
+-- row i breaks number 13, by the delays of a listing
 unfoldable pub rowWrong : Tables → List Op → List ℤ → ℕ → Bool
 rowWrong T code S i = wrongRow (λ a timeout. inDelay (delayAt code a) timeout) T S i
 
+-- some row breaks number 13, by the delays of the program's listing
 unfoldable pub rowsBad : Tables → List ℤ → Bool
 rowsBad T S = let code = listingOf T in any (rowWrong T code S) (scheduleCount S)
 
--- one supplier's part: no row is wrong, none is of another, and the supplier is 0..7
+-- the part of supplier s breaks number 13: a row is wrong or of another supplier, or s is not 0..7
 abbrev pub badPart : Bool → List ℤ → ℕ → Bool
 badPart wrong S s = wrong || any (λ i. not (eqb (rowSupplier S i) s)) (scheduleCount S) || leb suppliers s
 
 unfoldable pub partBad : Tables → List ℤ → ℕ → Bool
 partBad T S s = badPart (rowsBad T S) S s
 
--- the joined schedule: at most 256 rows of one supplier
+-- how many rows of a schedule are of supplier s
 unfoldable pub rowCount : List ℤ → ℕ → ℕ
 rowCount S s = length (those (λ i. eqb (rowSupplier S i) s) (λ i. i) (scheduleCount S) 0)
 
+-- the joined schedule breaks number 13: a row is wrong, or one supplier has over 256 rows
 abbrev pub badJoined : Bool → List ℤ → Bool
 badJoined wrong S = wrong || any (λ s. ltb maxPart (rowCount S s)) suppliers
 
 unfoldable pub joinedBad : Tables → List ℤ → Bool
 joinedBad T S = badJoined (rowsBad T S) S
 
--- The same as claims.
+-- What number 13 asks of rows, of a part and of the joined schedule, as claims.
 pub record Dispatches (T : Tables) (S : List ℤ) (i : ℕ) : Type 0 where
   pub kind : rowKind S i ≡ kindDispatch
   pub task : rowTask S i < taskCount T

@@ -1,5 +1,5 @@
 -- Numbers 14 and 15, and the verdict on a supplier's schedule code: judged from unit 0 of each mode, nothing running, with
--- all worst-case times; the place is the lowest mode, then the lowest tick. Assumes nothing.
+-- all worst-case times; the place is the lowest mode, then the lowest tick.
 use Prim.Native.Nat.{ℕ, zero, suc}
 use mathlib.Core.Bool.{Bool, _||_}
 use mathlib.Core.List.{List, [], _∷_}
@@ -15,7 +15,7 @@ use Rattle.program.specs.Tables.{Tables}
 use Rattle.program.specs.Program.{Program, programOf, task, mode, ticksOf, nextUnit, dueTasks}
 use Rattle.rules.specs.Shape.{badSlice, shapeBad, WholeRows, Shaped}
 use Rattle.code.specs.Listing.{futureAddress}
-use Rattle.code.specs.Compile.{lentRefusals, lentRules}
+use Rattle.code.specs.Compile.{callRefusals, callRules}
 use Rattle.runs.specs.Windows.{windowWidth, inWindow}
 use Rattle.runs.specs.Schedule.{scheduleWidth, blockOf}
 use Rattle.runs.specs.Round.{Course, Break, none, outside, late, worstBreak, nothing}
@@ -33,7 +33,7 @@ pub record Asked : Type 0 where
 abbrev pub supplierOf : Asked → ℕ
 supplierOf L = indexOf (L .supplier)
 
--- the tasks of supplier s among these
+-- the tasks of a list that are of supplier s
 abbrev pub ownTasks : Program → ℕ → List ℕ → List ℕ
 ownTasks P s ts = keep (λ t. eqb (task P t .supplier) s) ts
 
@@ -69,7 +69,7 @@ answerOf m none = record { number = acceptedNumber; mode = 0; tick = 0 }
 answerOf m (outside t) = record { number = breakNumber (outside t); mode = m; tick = t }
 answerOf m (late t) = record { number = breakNumber (late t); mode = m; tick = t }
 
--- of n modes from m on, the first whose run breaks
+-- the answer on the n modes from m on: that of the first whose run breaks
 abbrev pub answerFrom : (ℕ → Break) → ℕ → ℕ → Answer
 answerFrom breaks zero m = answerOf m none
 answerFrom breaks (suc n) m = elim (breaks m) [
@@ -81,12 +81,12 @@ answerFrom breaks (suc n) m = elim (breaks m) [
 abbrev pub judged : Asked → Answer
 judged L = answerFrom (λ m. worstBreak (courseOf L m) nothing) (length (programOf (L .tables) .modes)) 0
 
--- 1 to 13
+-- number 1 applies to what a supplier's verdict is lent: a table, the windows or the part is not whole rows, or has too many
 unfoldable pub partShapeBad : Asked → Bool
 partShapeBad L =
     shapeBad (L .tables) || badSlice windowWidth maxWindows (L .windows) || badSlice scheduleWidth maxPart (L .part)
 
--- the windows as they are lent here too
+-- the tables and windows of what a supplier's verdict is lent
 abbrev pub windowedOf : Asked → Windowed
 windowedOf L = record { tables = L .tables; windows = L .windows }
 
@@ -97,8 +97,9 @@ ownRefusals =
     ∷ []
 
 abbrev pub partRefusals : List (Refusal Asked)
-partRefusals = lentRefusals (λ L. L .tables) partShapeBad ownRefusals
+partRefusals = callRefusals (λ L. L .tables) partShapeBad ownRefusals
 
+-- the verdict on a supplier's part before it is run: numbers 1 to 13
 unfoldable pub partVerdict : Asked → ℕ
 partVerdict L = verdict partRefusals L
 
@@ -112,8 +113,8 @@ ownRules =
     ∷ []
 
 abbrev pub partRules : List (Rule Asked)
-partRules = lentRules (λ L. L .tables) PartShaped ownRules
+partRules = callRules (λ L. L .tables) PartShaped ownRules
 
--- the verdict on a supplier's schedule code
+-- the verdict on a supplier's schedule code: numbers 1 to 13 without a place, else what its run comes to
 unfoldable pub supplierVerdict : Asked → Answer
 supplierVerdict L = elim (partVerdict L) [ zero ↦ judged L | suc n ↦ record { number = suc n; mode = 0; tick = 0 } ]

@@ -18,7 +18,7 @@ use cells::table;
 use cells::tables;
 use layout::delays;
 
-// How many rows a supplier has.
+// How many rows of a schedule are of this supplier.
 fn row_count(rows: &[i32], supplier: usize) -> usize
     ensures { λ r. ⌜ r ≡ rowCount (now (rows .entry)) supplier ⌝ }
 {
@@ -34,7 +34,7 @@ fn row_count(rows: &[i32], supplier: usize) -> usize
     count
 }
 
-// Some supplier has more than a part may have.
+// Some supplier has more rows in the joined schedule than a part may have.
 fn some_long(rows: &[i32]) -> bool
     ensures { λ r. ⌜ r ≡ any (λ s. ltb maxPart (rowCount (now (rows .entry)) s)) suppliers ⌝ }
 {

@@ -9,12 +9,13 @@ ghost use Rattle.runs.specs.Schedule.{scheduleCount, rowSupplier, rowAddress, r
 ghost use Rattle.suppliers.specs.Schedule.{delayFits, dispatchFits, idleFits, precedes};
 ghost use Rattle.suppliers.specs.Delays.{rowWrongBy, partBadBy};
 use cells::columns::schedule;
-use cells::columns::task;
+use cells::kinds::Task;
 use cells::limits::Program;
 use cells::table;
+use cells::tasks;
 use layout::delays;
 
-// A `future` stands at the row's address, and the timeout is within its delay.
+// A `future` stands at the address of row i, and the timeout of row i is within the delay of that `future`.
 fn delay_fits(delays: &[u32], rows: &[i32], i: usize) -> bool
     ensures { λ r. ⌜ r ≡ delayFits (now (delays .entry)) (rowAddress (now (rows .entry)) i) (rowTimeout (now (rows .entry)) i) ⌝ }
 {
@@ -24,28 +25,27 @@ fn delay_fits(delays: &[u32], rows: &[i32], i: usize) -> bool
     (0 < delay) & (timeout <= delay)
 }
 
-// A dispatch of a declared task of the row's supplier.
+// Row i is a dispatch of a declared task of the supplier that row i names.
 fn dispatch_fits(tasks: &[i32], rows: &[i32], i: usize) -> bool
     ensures { λ r. ⌜ ((T : Tables) → T .tasks ≡ now (tasks .entry) → r ≡ dispatchFits T (now (rows .entry)) i) ⌝ }
 {
-    let n = tasks.len() / task::WIDTH;
     let kind = table::field(rows, schedule::WIDTH, i, schedule::KIND);
-    let own = table::task(rows, schedule::WIDTH, i, schedule::TASK);
-    let owner = table::field(tasks, task::WIDTH, own.index(), task::SUPPLIER);
+    let task = table::task(rows, schedule::WIDTH, i, schedule::TASK);
+    let owner = tasks::owner(tasks, task);
     let supplier = table::field(rows, schedule::WIDTH, i, schedule::SUPPLIER);
-    (kind == schedule::DISPATCH) & (own.index() < n) & (owner == supplier)
+    (kind == schedule::DISPATCH) & tasks::declared(tasks, task) & (owner == supplier)
 }
 
-// An idle row, which has task 0.
+// Row i is an idle row and has task 0.
 fn idle_fits(rows: &[i32], i: usize) -> bool
     ensures { λ r. ⌜ r ≡ idleFits (now (rows .entry)) i ⌝ }
 {
     let kind = table::field(rows, schedule::WIDTH, i, schedule::KIND);
     let own = table::task(rows, schedule::WIDTH, i, schedule::TASK);
-    (kind == schedule::IDLE) & (own.index() == 0)
+    (kind == schedule::IDLE) & own.is(Task::of(0))
 }
 
-// Row i comes before row j, by supplier, then address.
+// Row i comes before row j in the order of supplier, then address.
 fn precedes(rows: &[i32], i: usize, j: usize) -> bool
     ensures { λ r. ⌜ r ≡ precedes (now (rows .entry)) i j ⌝ }
 {
@@ -56,7 +56,7 @@ fn precedes(rows: &[i32], i: usize, j: usize) -> bool
     (supplier < other) | ((supplier == other) & (address < other_address))
 }
 
-// The row above; of the first, itself.
+// The row above row i; of row 0, row 0 itself.
 fn above(i: usize) -> usize
     ensures { λ r. ⌜ r ≡ i - 1 ⌝ }
 {
@@ -66,7 +66,7 @@ fn above(i: usize) -> usize
     0
 }
 
-// Row i is wrong by itself, or comes before the row above it.
+// Row i breaks number 13: it is wrong by itself, or comes before the row above it.
 fn row_wrong(tasks: &[i32], delays: &[u32], rows: &[i32], i: usize) -> bool
     ensures { λ r. ⌜ ((T : Tables) → T .tasks ≡ now (tasks .entry) → r ≡ rowWrongBy T (now (delays .entry)) (now (rows .entry)) i) ⌝ }
 {
@@ -76,7 +76,7 @@ fn row_wrong(tasks: &[i32], delays: &[u32], rows: &[i32], i: usize) -> bool
     !fits | precedes(rows, i, above(i))
 }
 
-// The first row that is wrong; the count where none is.
+// The lowest row that breaks number 13; the number of rows where none does.
 pub fn first_wrong_row(tasks: &[i32], delays: &[u32], rows: &[i32]) -> usize
     ensures { λ r. ⌜ ((T : Tables) → T .tasks ≡ now (tasks .entry)
         → r ≡ first (rowWrongBy T (now (delays .entry)) (now (rows .entry))) (scheduleCount (now (rows .entry)))) ⌝ }
@@ -92,7 +92,7 @@ pub fn first_wrong_row(tasks: &[i32], delays: &[u32], rows: &[i32]) -> usize
     n
 }
 
-// The first row of another supplier; the count where there is none.
+// The lowest row of another supplier; the number of rows where there is none.
 fn first_foreign_row(rows: &[i32], supplier: usize) -> usize
     ensures { λ r. ⌜ r ≡ first (λ i. not (eqb (rowSupplier (now (rows .entry)) i) supplier)) (scheduleCount (now (rows .entry))) ⌝ }
 {
@@ -107,7 +107,7 @@ fn first_foreign_row(rows: &[i32], supplier: usize) -> usize
     n
 }
 
-// The part of one supplier: wrong rows, rows of another, or no such supplier.
+// The part of one supplier breaks number 13: a row is wrong or of another supplier, or there is no such supplier.
 pub fn part_bad(tasks: &[i32], delays: &[u32], rows: &[i32], supplier: usize) -> bool
     ensures { λ r. ⌜ ((T : Tables) → T .tasks ≡ now (tasks .entry) → r ≡ partBadBy T (now (delays .entry)) (now (rows .entry)) supplier) ⌝ }
 {

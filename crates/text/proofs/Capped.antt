@@ -1,5 +1,4 @@
 -- A number that is held at the first that is too large: how far it goes, and that it does not matter when it is held.
--- Assumes nothing.
 use Prim.Native.Nat.{ℕ, _+_, _*_, _<_, _≤_}
 use mathlib.Core.Path.{_≡_, refl, ap}
 use mathlib.Core.Bool.{Bool, true, false}
@@ -23,7 +22,7 @@ capped-most n = go (ltb n tooLarge) refl
     go true e = omega (arith, capped-small n (ltb-true n tooLarge e), ltb-true n tooLarge e)
     go false e = omega (arith, capped-large n (ltb-false n tooLarge e))
 
--- one digit more of a number that is held already
+-- a number that is held already is held alike after one digit more
 pub capped-more : (n d : ℕ) → capped (capped n * 10 + d) ≡ capped (n * 10 + d)
 capped-more n d = go (ltb n tooLarge) refl
   where

@@ -1,4 +1,4 @@
--- Where a line is cut does not matter: feeding two pieces one after the other is feeding them joined. Assumes nothing.
+-- Where a line is cut does not matter: feeding two pieces one after the other is feeding them joined.
 use Prim.Native.Nat.{ℕ}
 use mathlib.Core.Path.{_≡_, refl}
 use mathlib.Core.List.{List, [], _∷_, _++_}

@@ -1,5 +1,4 @@
 -- The digits of a number, one at a time from the last: which follow, how many there are, and where they are put.
--- Assumes nothing.
 use Prim.Native.Nat.{ℕ, zero, suc, _+_, _-_, _/_, _%_, _≤_, _<_}
 use mathlib.Core.Path.{_≡_, refl, sym, ap, subst, _∙_}
 use mathlib.Core.Bool.{Bool, true, false}
@@ -17,15 +16,15 @@ abbrev pub lastDigit : ℕ → ℕ
 lastDigit n = digitZero + n % 10
 
 module _ (most n : ℕ) (text : List ℕ) where
-  -- in front of a digit stand those of the number divided by ten
+  -- in front of the last digit of a number stand those of the number divided by ten
   pub digits-more : 10 ≤ n → digitsBefore (suc most) n text ≡ digitsBefore most (n / 10) (lastDigit n ∷ text)
   digits-more h = rw (le-ltb n 10 h, digitsBefore)
 
-  -- the first digit
+  -- a number below ten has one digit
   pub digits-last : n < 10 → digitsBefore (suc most) n text ≡ lastDigit n ∷ text
   digits-last h = rw (lt-ltb n 10 h, digitsBefore)
 
--- at most so many
+-- digits are at most as many as they may be
 pub digits-few : (most n : ℕ) (text : List ℕ) → length (digitsBefore most n text) ≤ most + length text
 digits-few zero n text = omega arith
 digits-few (suc most) n text = go (ltb n 10) (digits-few most (n / 10) (lastDigit n ∷ text))
@@ -38,11 +37,11 @@ digits-few (suc most) n text = go (ltb n 10) (digits-few most (n / 10) (lastDigi
     go true h = omega arith
     go false h = omega arith
 
--- a number is printed with ten at most
+-- a number is printed with ten digits at most
 pub decimal-few : (n : ℕ) → length (decimal n) ≤ mostDigits
 decimal-few n = omega (arith, digits-few mostDigits n [])
 
--- digits at the end of their room begin as far from its end as there are
+-- digits at the end of their room begin as far from its end as there are digits
 pub digits-place : (n : ℕ) (bytes : List ℕ) (from : ℕ) → from ≤ mostDigits → length bytes ≡ mostDigits → drop from bytes ≡ decimal n
     → from ≡ mostDigits - length (decimal n)
 digits-place n bytes from l e d = omega (arith, length-drop from bytes, ap length d)
@@ -59,7 +58,7 @@ pub record Writing (n : ℕ) (bytes : List ℕ) (from rest : ℕ) : Type 0 where
   pub left : digitsBefore from rest (drop from bytes) ≡ decimal n
   pub front : take from bytes ≡ take from (replicate mostDigits 0)
 
--- nothing is written yet
+-- before the first digit is written, the rest gives all digits of n
 pub writing-none : (n : ℕ) → Writing n (replicate mostDigits 0) mostDigits n
 writing-none n =
     record {
@@ -70,17 +69,17 @@ writing-none n =
     }
 
 module _ (n : ℕ) (bytes : List ℕ) (from rest : ℕ) (h : 0 < from) (w : Writing n bytes from rest) where
-  -- one digit more, in front
+  -- a digit that is put in front of those that are there stands in front of them
   put-digit : drop (from - 1) (set bytes (from - 1) (lastDigit rest)) ≡ lastDigit rest ∷ drop from bytes
   put-digit =
       let z : suc (from - 1) ≡ from = omega arith in
       put-front bytes (from - 1) (lastDigit rest) (omega (arith, w .within, w .whole)) ∙ ap (λ (k : ℕ). lastDigit rest ∷ drop k bytes) z
 
-  -- the place for it is one of those that are left
+  -- with the place in front those that are there and those that the rest gives are the digits of n
   one-more : digitsBefore (suc (from - 1)) rest (drop from bytes) ≡ decimal n
   one-more = let z : from ≡ suc (from - 1) = omega arith in subst (λ (k : ℕ). digitsBefore k rest (drop from bytes) ≡ decimal n) z (w .left)
 
-  -- in front of it nothing is written yet
+  -- in front of the digit that was put nothing is written yet
   pub front-kept : take (from - 1) (set bytes (from - 1) (lastDigit rest)) ≡ take (from - 1) (replicate mostDigits 0)
   front-kept =
       take-set-le (from - 1) bytes (from - 1) (lastDigit rest) (omega arith)
@@ -88,7 +87,7 @@ module _ (n : ℕ) (bytes : List ℕ) (from rest : ℕ) (h : 0 < from) (w : Writ
       ∙ ap (take (from - 1)) (w .front)
       ∙ take-take (from - 1) from (replicate mostDigits 0) (omega arith)
 
-  -- others follow in front of it
+  -- where the rest is ten or more, other digits follow in front of the one that was put
   pub writing-more : 10 ≤ rest → Writing n (set bytes (from - 1) (lastDigit rest)) (from - 1) (rest / 10)
   writing-more m =
       record {
@@ -101,11 +100,11 @@ module _ (n : ℕ) (bytes : List ℕ) (from rest : ℕ) (h : 0 < from) (w : Writ
         front = front-kept;
       }
 
-  -- it is the first
+  -- where the rest is below ten, the digit that was put is the first
   pub writing-last : rest < 10 → drop (from - 1) (set bytes (from - 1) (lastDigit rest)) ≡ decimal n
   writing-last m = put-digit ∙ sym (digits-last (from - 1) rest (drop from bytes) m) ∙ one-more
 
--- no room for more
+-- where no room is left, the last ten digits are written
 pub writing-full : (n : ℕ) (bytes : List ℕ) (from rest : ℕ) → from ≤ 0 → Writing n bytes from rest → drop from bytes ≡ decimal n
 writing-full n bytes from rest h w =
     let z : from ≡ 0 = omega arith in

@@ -1,5 +1,4 @@
 -- A page that is filled line by line: what stands on it, and when it has a line at least.
--- Assumes nothing.
 use Prim.Native.Nat.{ℕ, zero, suc, _+_, _-_, _≤_, _<_}
 use mathlib.Core.Path.{_≡_, refl, sym, ap, _∙_}
 use mathlib.Core.List.{List, [], _++_}
@@ -21,7 +20,7 @@ abbrev pub Paged : List Op → ℕ → ℕ → ℕ → ℕ → Type 0
 Paged os size from next len = pageEnd (length os - next) os size next len ≡ pageEnd (length os - from) os size from 0
 
 module _ (os : List Op) (size from next len : ℕ) (p : Paged os size from next len) where
-  -- it ends for want of room
+  -- a page ends where there is no room for any line
   pub paged-full : size - len < room → next ≡ pageEnd (length os - from) os size from 0
   paged-full h = sym (stops (length os - next)) ∙ p
     where
@@ -29,11 +28,11 @@ module _ (os : List Op) (size from next len : ℕ) (p : Paged os size from next 
       stops zero = refl
       stops (suc left) = rw (lt-ltb (size - len) room h, pageEnd)
 
-  -- or of instructions
+  -- a page ends where there is no instruction left
   pub paged-last : length os ≤ next → next ≡ pageEnd (length os - from) os size from 0
   paged-last h = let z : 0 ≡ length os - next = omega arith in ap (λ (k : ℕ). pageEnd k os size next len) z ∙ p
 
-  -- or goes on by a line
+  -- a page with room for any line goes on by a line where an instruction is left
   pub paged-more : (end : ℕ) → next < length os → room ≤ size - len → end ≡ len + length (lineOf next (getD os next faulty)) → Paged os size from (next + 1) end
   paged-more end l h e =
       let z : length os - next ≡ suc (length os - (next + 1)) = omega arith in
@@ -41,11 +40,11 @@ module _ (os : List Op) (size from next len : ℕ) (p : Paged os size from next 
       ∙ sym (ap (λ (k : ℕ). pageEnd k os size next len) z ∙ rw (le-ltb (size - len) room h, pageEnd))
       ∙ p
 
--- no line
+-- from an instruction up to itself there is no line
 pub lines-none : (os : List Op) (from : ℕ) → linesOf os from from ≡ []
 lines-none os from = ap (linesFrom from) (slice-empty from os)
 
--- an empty page
+-- a page with no line leaves the slice as it was
 pub written-none : (os : List Op) (from : ℕ) (before : List ℕ) → Written os from before before from 0
 written-none os from before =
     record {
@@ -57,16 +56,16 @@ written-none os from before =
     }
 
 module _ (os : List Op) (from : ℕ) (before after : List ℕ) (next len : ℕ) (w : Written os from before after next len) where
-  -- the slice is as long as before
+  -- a page keeps the length of the slice
   pub written-same : length after ≡ length before
   written-same =
       omega (arith, ap length (w .text), length-append (linesOf os from next) (drop len before), length-drop len before, w .size, w .within)
 
-  -- what stands there
+  -- what stands on a page is its lines
   pub written-text : take len after ≡ linesOf os from next
   written-text = ap (take len) (w .text) ∙ take-at (linesOf os from next) (drop len before) len (sym (w .size))
 
-  -- what stands behind a place behind it
+  -- what stands behind a page is as it was
   behind : (k : ℕ) → drop (len + k) after ≡ drop (len + k) before
   behind k =
       ap (drop (len + k)) (w .text)
@@ -74,7 +73,7 @@ module _ (os : List Op) (from : ℕ) (before after : List ℕ) (next len : ℕ) 
       ∙ drop-append-add (linesOf os from next) (drop len before) k
       ∙ drop-drop k len before
 
-  -- one line more
+  -- a page with one line more
   pub written-more : (l : Line) (out : List ℕ) (end : ℕ) → next < length os → end ≤ length before
       → Holds l (lineOf next (getD os next faulty)) → Laid after out len l end → Written os from before out (next + 1) end
   written-more l out end h fits said laid =
@@ -93,16 +92,16 @@ module _ (os : List Op) (from : ℕ) (before after : List ℕ) (next len : ℕ) 
             ∙ ap (λ (t : List ℕ). linesOf os from (next + 1) ++ t) (ap (λ (n : ℕ). drop n after) (laid .end) ∙ behind (l .len) ∙ ap (λ (n : ℕ). drop n before) (sym (laid .end)));
       }
 
-  -- after the pages before it, it goes on with the listing
+  -- a page behind the pages before it goes on with the listing
   pub written-joins : (shown : List ℕ) → from ≤ length os → shown ≡ linesOf os 0 from → shown ++ take len after ≡ linesOf os 0 next
   written-joins shown h e =
       (λ j. e j ++ written-text j) ∙ pages-join os 0 from next (omega arith) (w .onward) (omega (arith, w .inside))
 
-  -- no line was written where it ends with the first
+  -- a page that ends with its first instruction has no byte
   written-start : next ≡ from → len ≡ 0
   written-start e = w .size ∙ ap length (ap (linesOf os from) e ∙ lines-none os from)
 
-  -- it ended for want of room, and there was room for a line
+  -- a page that ended for want of room has a line, where there was room for one
   pub written-some : length after - len < room → room ≤ length before → from < next
   written-some h r = go (decLt from next)
     where

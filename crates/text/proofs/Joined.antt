@@ -1,5 +1,4 @@
 -- The parts of a text, joined by the separator again, are the text.
--- Assumes nothing.
 use Prim.Native.Nat.{ℕ}
 use mathlib.Core.Path.{_≡_, refl, ap, _∙_}
 use mathlib.Core.Bool.{Bool, true, false}
@@ -37,7 +36,7 @@ joined-empty s (b ∷ bs) = go (eqb s b) (parts s bs)
     go false [] = refl
     go false (l ∷ ls) = refl
 
--- joined again
+-- the parts of a text, joined again, are the text
 pub parts-joined : (s : ℕ) (text : List ℕ) → joined s (parts s text) ≡ text
 parts-joined s [] = refl
 parts-joined s (b ∷ bs) = go (eqb s b) refl (parts-joined s bs)
@@ -47,7 +46,7 @@ parts-joined s (b ∷ bs) = go (eqb s b) refl (parts-joined s bs)
     go true e h = joined-empty s bs ∙ (λ j. eqb-true s b e j ∷ h j)
     go false e h = joined-front s b (parts s bs) ∙ ap (λ (l : List ℕ). b ∷ l) h
 
--- arguments are parts
+-- arguments are parts, each after a space
 pub behind-spaced : (ns : List ℕ) → behind space (map decimal ns) ≡ spaced ns
 behind-spaced [] = refl
 behind-spaced (n ∷ ns) = ap (λ (l : List ℕ). space ∷ (decimal n ++ l)) (behind-spaced ns)

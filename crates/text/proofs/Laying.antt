@@ -1,5 +1,4 @@
 -- A line that is laid into a slice a byte at a time: after i turns the first i bytes stand there.
--- Assumes nothing.
 use Prim.Native.Nat.{ℕ, _+_, _≤_, _<_}
 use mathlib.Core.Path.{_≡_, refl, ap, _∙_}
 use mathlib.Core.List.{List}
@@ -17,11 +16,11 @@ pub record Laying (before : List ℕ) (at : ℕ) (bytes : List ℕ) (n : ℕ) (o
   pub same : length out ≡ length before
   pub copied : out ≡ paste before at bytes i
 
--- none yet
+-- before the first byte the slice is as it was
 pub laying-none : (before : List ℕ) (at : ℕ) (bytes : List ℕ) (n : ℕ) → Laying before at bytes n before 0
 laying-none before at bytes n = record { few = omega arith; same = refl; copied = paste-zero before at bytes }
 
--- one more
+-- one byte more of the line stands at its place
 pub laying-more : (before : List ℕ) (at : ℕ) (bytes : List ℕ) (n : ℕ) (out : List ℕ) (i : ℕ)
     → i < n → at + i < length before → i < length bytes
     → Laying before at bytes n out i → Laying before at bytes n (set out (at + i) (getD bytes i 0)) (i + 1)
@@ -35,7 +34,7 @@ laying-more before at bytes n out i h in-out in-bytes w =
           ∙ rw add-one;
     }
 
--- all of them
+-- where all bytes stand at their place, the line is laid
 pub laid : (before : List ℕ) (at : ℕ) (l : Line) (out : List ℕ) (i : ℕ) → l .len ≤ i → Laying before at (l .bytes) (l .len) out i
     → Laid before out at l (at + l .len)
 unfolding textOf

@@ -1,5 +1,4 @@
 -- What a line says when more is appended to it, one piece after the other.
--- Assumes nothing.
 use Prim.Native.Nat.{ℕ, _+_, _≤_, _<_}
 use mathlib.Core.Path.{_≡_, refl, sym, ap, subst, _∙_}
 use mathlib.Core.List.{List, [], _∷_, _++_, append-assoc, append-nil}
@@ -10,7 +9,7 @@ use lib.Seq.{take-suc, take-all, take-suc-set, drop-set-lt, drop-drop}
 use Rattle.text.specs.Line.{room, textOf, Holds, Appended}
 use Rattle.text.specs.declared.line.Line.{Line}
 
--- one byte more, at the end
+-- a line with one byte more at its end says this byte more
 pub appended-byte : (l : Line) (b : ℕ) → l .len < length (l .bytes)
     → Appended l (record { bytes = set (l .bytes) (l .len) b; len = l .len + 1 }) (b ∷ [])
 unfolding textOf
@@ -21,7 +20,7 @@ appended-byte l b h =
       rest = drop-set-lt (l .len + 1) (l .bytes) (l .len) b (omega arith);
     }
 
--- nothing more
+-- a line to which nothing is appended says nothing more
 pub appended-none : (l : Line) → Appended l l []
 appended-none l = record { text = simp append-nil; len = omega arith; rest = refl }
 
@@ -30,7 +29,7 @@ rest-on : (l m : List ℕ) (i k j : ℕ) → j ≡ i + k → drop i l ≡ drop i
 rest-on l m i k j e h =
     ap (λ (n : ℕ). drop n l) e ∙ sym (drop-drop k i l) ∙ ap (drop k) h ∙ drop-drop k i m ∙ ap (λ (n : ℕ). drop n m) (sym e)
 
--- one piece after the other
+-- two pieces that are appended one after the other are appended together
 pub appended-both : {a b c : Line} (x y : List ℕ) → Appended a b x → Appended b c y → Appended a c (x ++ y)
 appended-both {a} {b} {c} x y f g =
     record {
@@ -48,11 +47,11 @@ holds-more {a} {b} said more f g =
       rest = g .rest ∙ rest-on (a .bytes) (replicate room 0) (a .len) (length more) (b .len) (g .len) (f .rest);
     }
 
--- of some bytes the first i, and then the next
+-- where the first i bytes were appended, and then the next, the first i + 1 were appended
 pub appended-next : {a b c : Line} (more : List ℕ) (i : ℕ) → i < length more
     → Appended a b (take i more) → Appended b c (getD more i 0 ∷ []) → Appended a c (take (i + 1) more)
 appended-next {a} {b} {c} more i h f g = rw (add-one, take-suc more i 0) (appended-both (take i more) (getD more i 0 ∷ []) f g)
 
--- in the end all of them
+-- where as many bytes were appended as there are, all were appended
 pub appended-whole : {a b : Line} (more : List ℕ) (i : ℕ) → length more ≤ i → Appended a b (take i more) → Appended a b more
 appended-whole {a} {b} more i h f = subst (Appended a b) (take-all i more h) f

@@ -1,5 +1,4 @@
 -- The decimal digits of a number of 32 bits have its value.
--- Assumes nothing.
 use Prim.Native.Nat.{ℕ, zero, suc, _+_, _-_, _*_, _/_, _%_, _^_, _≤_, _<_}
 use mathlib.Core.Path.{_≡_, refl, ap, _∙_}
 use mathlib.Core.Bool.{Bool, true, false}
@@ -18,11 +17,11 @@ use Rattle.text.proofs.Decimals.{lastDigit}
 abbrev pub taken : {A : Type 0} → Bool → Option A → Option A
 taken b v = elim b [ true ↦ v | false ↦ none ]
 
--- the last digit is one
+-- the last digit of a number is a digit
 digit-is : (n : ℕ) → isDigit (lastDigit n) ≡ true
 digit-is n = simp (le-leb digitZero (lastDigit n) (omega arith), lt-ltb (lastDigit n) (digitZero + 10) (omega arith))
 
--- one digit more
+-- the value after one digit more of a number
 digit-value : (m n : ℕ) (text : List ℕ) → valueAfter m (lastDigit n ∷ text) ≡ valueAfter (m * 10 + n % 10) text
 digit-value m n text =
     let z : m * 10 + (lastDigit n - digitZero) ≡ m * 10 + n % 10 = omega arith in
@@ -46,13 +45,13 @@ digits-value (suc most) n text h = go (ltb n 10) refl (digits-value most (n / 10
         let z : n / 10 * 10 + n % 10 ≡ n = omega arith in
         ih (omega arith) ∙ digit-value (n / 10) n text ∙ ap (λ (k : ℕ). valueAfter k text) z
 
--- a byte more in front, or others that are some
+-- a text with some byte, or another that has its digits' value, has its digits' value, whichever a test picks
 some-step : (t : Bool) (b : ℕ) (text more : List ℕ) → magnitude more ≡ valueAfter 0 more
     → magnitude (elim t [ true ↦ b ∷ text | false ↦ more ]) ≡ valueAfter 0 (elim t [ true ↦ b ∷ text | false ↦ more ])
 some-step true b text more h = refl
 some-step false b text more h = h
 
--- so digits in front of some byte are some
+-- digits in front of some byte have their value
 some-before : (most n b : ℕ) (text : List ℕ) → magnitude (digitsBefore most n (b ∷ text)) ≡ valueAfter 0 (digitsBefore most n (b ∷ text))
 some-before zero n b text = refl
 some-before (suc most) n b text =
@@ -69,7 +68,7 @@ decimal-some n =
 pub magnitude-decimal : (n : ℕ) → n ≤ greatestWord → magnitude (decimal n) ≡ some n
 magnitude-decimal n h = decimal-some n ∙ digits-value mostDigits n [] (omega arith)
 
--- and are a number of 32 bits
+-- the digits of a number of 32 bits are one
 pub word-decimal : (n : ℕ) → n ≤ greatestWord → wordOf (decimal n) ≡ some n
 word-decimal n h =
     ap asWord (magnitude-decimal n h) ∙ ap (λ (b : Bool). taken b (some n)) (le-leb n greatestWord h)

@@ -1,5 +1,5 @@
 -- Where a page ends: not before it begins, its lines fit, it has a line where there is an instruction and room for any line, and the
--- lines from a page on are its own and those from its end on. Assumes nothing.
+-- lines from a page on are its own and those from its end on.
 use Prim.Native.Nat.{ℕ, zero, suc, _+_, _-_, _≤_, _<_}
 use mathlib.Core.Path.{_≡_, refl, sym, ap, _∙_}
 use mathlib.Core.Bool.{Bool, true, false}
@@ -25,7 +25,7 @@ pub record Ends (os : List Op) (size from next end : ℕ) : Type 0 where
   pub onward : next ≤ end
   pub fits : length (linesOf os from end) ≤ size
 
--- it goes on by lines that fit
+-- a page goes on by lines that fit
 page-from : (left : ℕ) (os : List Op) (size from next len : ℕ) → left ≡ length os - next → from ≤ next
     → len ≡ length (linesOf os from next) → len ≤ size → Ends os size from next (pageEnd left os size next len)
 page-from zero os size from next len e f l h = record { onward = omega arith; fits = omega arith }
@@ -50,11 +50,11 @@ page-from (suc left) os size from next len e f l h =
         let m = more (ltb-false (size - len) room b) in
         record { onward = omega (arith, m .onward); fits = m .fits }
 
--- a page that begins at an instruction
+-- a page that begins at an instruction ends so
 pub page-ends : (os : List Op) (size from : ℕ) → Ends os size from from (pageEnd (length os - from) os size from 0)
 page-ends os size from = page-from (length os - from) os size from from 0 refl (omega arith) (sym (ap length (lines-none os from))) (omega arith)
 
--- it has a line at least
+-- a page has a line at least where there is an instruction and room for any line
 pub page-goes : (os : List Op) (size from : ℕ) → from < length os → room ≤ size → from < pageEnd (length os - from) os size from 0
 page-goes os size from h r = go (length os - from) refl
   where

@@ -1,5 +1,4 @@
 -- Lines of a listing one after the other: one line more, and pages that come to the whole listing.
--- Assumes nothing.
 use Prim.Native.Nat.{ℕ, suc, _+_, _≤_, _<_}
 use mathlib.Core.Path.{_≡_, sym, ap, _∙_}
 use mathlib.Core.List.{List, [], _∷_, _++_, append-assoc, append-nil}
@@ -20,13 +19,13 @@ lines-append address (x ∷ xs) ys =
     ∙ sym (append-assoc (lineOf address x) (linesFrom (suc address) xs) (linesFrom (address + suc (length xs)) ys))
 
 module _ (os : List Op) (from next : ℕ) (f : from ≤ next) (h : next < length os) where
-  -- the instructions up to the next one, and it
+  -- the instructions up to the next one and it are those up to the one behind it
   slice-more : slice from (suc next) os ≡ slice from next os ++ (getD os next faulty ∷ [])
   slice-more =
       let l : from ≤ length (take next os) = omega (arith, length-take-le next os (omega arith)) in
       ap (drop from) (take-suc os next faulty h) ∙ drop-append-le from (take next os) (getD os next faulty ∷ []) l
 
-  -- one line more
+  -- the lines up to an instruction and its own are those up to the next instruction
   pub lines-more : linesOf os from (suc next) ≡ linesOf os from next ++ lineOf next (getD os next faulty)
   lines-more =
       let o = getD os next faulty in
@@ -38,14 +37,14 @@ module _ (os : List Op) (from next : ℕ) (f : from ≤ next) (h : next < length
 
 -- two pages one after the other
 module _ (os : List Op) (from middle to : ℕ) (f : from ≤ middle) (g : middle ≤ to) (h : to ≤ length os) where
-  -- their instructions
+  -- the instructions of two pages one after the other are those of the two together
   slice-join : slice from to os ≡ slice from middle os ++ slice middle to os
   slice-join =
       let cut : take to os ≡ take middle os ++ slice middle to os = sym (take-append-drop middle (take to os)) ∙ ap (λ (l : List Op). l ++ slice middle to os) (take-take middle to os g) in
       let l : from ≤ length (take middle os) = omega (arith, length-take-le middle os (omega arith)) in
       ap (drop from) cut ∙ drop-append-le from (take middle os) (slice middle to os) l
 
-  -- their lines
+  -- the lines of two pages one after the other are those of the two together
   pub pages-join : linesOf os from middle ++ linesOf os middle to ≡ linesOf os from to
   pages-join =
       let e : from + length (slice from middle os) ≡ middle = omega (arith, length-slice from middle os (omega arith)) in

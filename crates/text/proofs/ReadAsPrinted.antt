@@ -1,5 +1,4 @@
 -- A text that is read prints as itself: the reader takes printed texts and no others.
--- Assumes nothing.
 use Prim.Native.Nat.{ℕ, suc}
 use mathlib.Core.Path.{_≡_, refl, sym, ap, _∙_}
 use mathlib.Core.Bool.{Bool, true, false}
@@ -10,13 +9,14 @@ use borrow.Author.Tests.{eqb-true}
 use Rattle.code.specs.Op.{Op}
 use Rattle.text.specs.Decimal.{space, newline}
 use Rattle.text.specs.Listing.{spaced, arguments, lineOf, linesFrom, listingText}
-use Rattle.text.specs.ReadBack.{Placed, parts, numeral, numerals, named, opNamed, placedAt, readWords, readInner, readOnly, readLine, readNext, readEnd, readFrom, readListing}
+use Rattle.text.specs.ReadBack.{Placed, parts, numeral, numerals, named, opNamed, placedAt, readWords, readInner, readOnly}
+use Rattle.text.specs.ReadBack.{readLine, readNext, readEnd, readFrom, readListing}
 use Rattle.text.proofs.Inverted.{inner, line-then}
 use Rattle.text.proofs.Joined.{behind, joined, parts-joined, behind-spaced}
 use Rattle.text.proofs.Magnitude.{taken}
 use Rattle.text.proofs.WordsRead.{numeral-prints, numerals-print, named-prints}
 
--- the words of a line without its end
+-- the words of a line that are read are those of the line of what they say
 words-print : (ws : List (List ℕ)) (p : Placed) → readWords ws ≡ some p → joined space ws ≡ inner (p .address) (p .op)
 words-print [] p e = absurd (Option·none-ne-some p e)
 words-print (a ∷ []) p e = absurd (Option·none-ne-some p e)
@@ -37,11 +37,11 @@ words-print (a ∷ name ∷ rest) p e = go (numeral a) refl (numerals rest) refl
     go (some n) f none g e = absurd (Option·none-ne-some p e)
     go (some n) f (some ns) g e = said n f ns g (named name ns) refl e
 
--- a line without its end
+-- a line that is read without its end is the line of what it says
 inner-prints : (line : List ℕ) (p : Placed) → readInner line ≡ some p → line ≡ inner (p .address) (p .op)
 inner-prints line p e = sym (parts-joined space line) ∙ words-print (parts space line) p e
 
--- a line with its end
+-- the one line of a text that is read is the line of what it says
 only-prints : (ls : List (List ℕ)) (p : Placed) → readOnly ls ≡ some p → joined newline ls ≡ lineOf (p .address) (p .op)
 only-prints [] p e = absurd (Option·none-ne-some p e)
 only-prints (l ∷ []) p e = absurd (Option·none-ne-some p e)
@@ -56,19 +56,19 @@ only-prints (l ∷ (b ∷ bs) ∷ ls) p e = absurd (Option·none-ne-some p e)
 pub line-prints : (text : List ℕ) (p : Placed) → readLine text ≡ some p → text ≡ lineOf (p .address) (p .op)
 line-prints text p e = sym (parts-joined newline text) ∙ only-prints (parts newline text) p e
 
--- behind the last line
+-- behind the last line that is read nothing stands
 end-prints : (address : ℕ) (line : List ℕ) (os : List Op) → readEnd line ≡ some os → joined newline (line ∷ []) ≡ linesFrom address os
 end-prints address [] os e = ap (linesFrom address) (Option·some-injective [] os e)
 end-prints address (b ∷ bs) os e = absurd (Option·none-ne-some os e)
 
--- the lines from an address on
+-- the lines from an address on that are read are those of what they say
 lines-print : (address : ℕ) (ls : List (List ℕ)) (os : List Op) → readFrom address ls ≡ some os → joined newline ls ≡ linesFrom address os
 lines-print address [] os e = absurd (Option·none-ne-some os e)
 lines-print address (l ∷ []) os e = end-prints address l os e
 lines-print address (l ∷ m ∷ ls) os e =
     go (readInner l) refl (readFrom (suc address) (m ∷ ls)) refl (lines-print (suc address) (m ∷ ls)) e
   where
-    -- at its address
+    -- a line that is read at its address and the lines after it are those of what they say
     placed : (p : Placed) → readInner l ≡ some p → (qs : List Op) → joined newline (m ∷ ls) ≡ linesFrom (suc address) qs
         → (t : Bool) → eqb (p .address) address ≡ t → taken t (some (p .op ∷ qs)) ≡ some os → joined newline (l ∷ m ∷ ls) ≡ linesFrom address os
     placed p f qs ih true a e =

@@ -1,5 +1,4 @@
 -- What the byte machine answers for a line as a signed number is the line's number: refused exactly where it is none.
--- Assumes nothing.
 use Prim.Native.Nat.{ℕ}
 use mathlib.Core.Path.{_≡_, refl, sym, ap, _∙_}
 use mathlib.Core.Bool.{Bool, true, false, cond}
@@ -17,7 +16,7 @@ use Rattle.text.proofs.Capped.{capped-small, capped-large}
 use Rattle.text.proofs.LineEnd.{read, Come, after-minus, from-start, start-read, minus-read}
 use Rattle.text.proofs.Signs.{past-least, past-greatest}
 
--- a sign and the value of digits
+-- the signed number of a sign and the value of digits
 abbrev signedBy : Bool → Option ℕ → Signed
 signedBy sign o = cond sign (signedAs (negative o)) (signedAs (notNegative o))
 

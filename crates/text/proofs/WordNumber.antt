@@ -1,5 +1,5 @@
 -- What the byte machine answers for a line as a word is the line's digits, if they are at most the greatest word: refused exactly
--- where they are not. Assumes nothing.
+-- where they are not.
 use Prim.Native.Nat.{ℕ}
 use mathlib.Core.Path.{_≡_, refl, sym, ap, _∙_}
 use mathlib.Core.Bool.{Bool, true, false, cond}
@@ -17,7 +17,7 @@ use Rattle.text.proofs.Capped.{capped-small, capped-large}
 use Rattle.text.proofs.LineEnd.{read, Come, after-minus, from-start, start-read, minus-read}
 use Rattle.text.proofs.Signs.{past-word}
 
--- a sign and the value of digits
+-- the word of a sign and the value of digits
 abbrev wordBy : Bool → Option ℕ → Word
 wordBy sign o = cond sign (wordAs none) (wordAs (asWord o))
 

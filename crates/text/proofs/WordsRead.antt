@@ -1,5 +1,4 @@
 -- Words that are read are printed ones: a number is its own decimal digits, a mnemonic with its arguments that of an instruction.
--- Assumes nothing.
 use Prim.Native.Nat.{ℕ}
 use mathlib.Core.Path.{_≡_, refl, sym, ap, subst, _∙_}
 use mathlib.Core.Bool.{Bool, true, false}
@@ -32,7 +31,7 @@ numeral-prints word n e = go (wordOf word) e
     go none e = absurd (Option·none-ne-some n e)
     go (some m) e = chosen m (same (decimal m) word) refl e
 
--- and so are all words
+-- words that are numbers are those numbers' digits
 pub numerals-print : (ws : List (List ℕ)) (ns : List ℕ) → numerals ws ≡ some ns → ws ≡ map decimal ns
 numerals-print [] ns e = ap (map decimal) (Option·some-injective [] ns e)
 numerals-print (w ∷ ws) ns e = go (numeral w) refl (numerals ws) refl (numerals-print ws) e
@@ -48,19 +47,19 @@ numerals-print (w ∷ ws) ns e = go (numeral w) refl (numerals ws) refl (numeral
 abbrev pub Prints : List ℕ → List ℕ → Op → Type 0
 Prints name ns o = (name ≡ mnemonic o) × (ns ≡ arguments o)
 
--- with no argument
+-- a mnemonic that is read without arguments is that of the instruction
 none-prints : (name : List ℕ) (q : Op) → name ≡ mnemonic q → arguments q ≡ [] → (ns : List ℕ) (o : Op) → withNone q ns ≡ some o → Prints name ns o
 none-prints name q i k [] o e = subst (Prints name []) (Option·some-injective q o e) (i, sym k)
 none-prints name q i k (n ∷ ns) o e = absurd (Option·none-ne-some o e)
 
--- with one
+-- a mnemonic that is read with one argument is that of the instruction
 one-prints : (name : List ℕ) (f : ℕ → Op) → ((n : ℕ) → name ≡ mnemonic (f n)) → ((n : ℕ) → arguments (f n) ≡ n ∷ [])
     → (ns : List ℕ) (o : Op) → withOne f ns ≡ some o → Prints name ns o
 one-prints name f i k [] o e = absurd (Option·none-ne-some o e)
 one-prints name f i k (n ∷ []) o e = subst (Prints name (n ∷ [])) (Option·some-injective (f n) o e) (i n, sym (k n))
 one-prints name f i k (n ∷ m ∷ ns) o e = absurd (Option·none-ne-some o e)
 
--- with two
+-- a mnemonic that is read with two arguments is that of the instruction
 two-print : (name : List ℕ) (f : ℕ → ℕ → Op) → ((n m : ℕ) → name ≡ mnemonic (f n m)) → ((n m : ℕ) → arguments (f n m) ≡ n ∷ m ∷ [])
     → (ns : List ℕ) (o : Op) → withTwo f ns ≡ some o → Prints name ns o
 two-print name f i k [] o e = absurd (Option·none-ne-some o e)
@@ -68,7 +67,7 @@ two-print name f i k (n ∷ []) o e = absurd (Option·none-ne-some o e)
 two-print name f i k (n ∷ m ∷ []) o e = subst (Prints name (n ∷ m ∷ [])) (Option·some-injective (f n m) o e) (i n m, sym (k n m))
 two-print name f i k (n ∷ m ∷ l ∷ ns) o e = absurd (Option·none-ne-some o e)
 
--- by the first mnemonic that is the same
+-- a mnemonic that is the same as a known one, or read as another, is that of the instruction
 either-prints : (name known ns : List ℕ) (x y : Option Op) (o : Op) → (name ≡ known → x ≡ some o → Prints name ns o) → (y ≡ some o → Prints name ns o)
     → elim (same name known) [ true ↦ x | false ↦ y ] ≡ some o → Prints name ns o
 either-prints name known ns x y o f g e = go (same name known) refl e
@@ -77,7 +76,7 @@ either-prints name known ns x y o f g e = go (same name known) refl e
     go true s e = f (same-says name known s) e
     go false s e = g e
 
--- so a mnemonic and numbers that are read are an instruction's
+-- a mnemonic and numbers that are read are those of the instruction
 pub named-prints : (name ns : List ℕ) (o : Op) → named name ns ≡ some o → Prints name ns o
 named-prints name ns o e =
     either-prints name (mnemonic (call 0)) ns _ _ o (λ i. one-prints name call (λ n. i) (λ n. refl) ns o)

@@ -1,5 +1,4 @@
 -- The digits of a number as the code holds them: at the end of a room for the most of them.
--- Assumes nothing.
 use Prim.Native.Nat.{ℕ, _-_}
 use mathlib.Core.Path.{_≡_}
 use mathlib.Core.List.{List}
@@ -11,7 +10,7 @@ use Rattle.text.specs.declared.decimal.Digits.{Digits}
 abbrev pub mostDigits : ℕ
 mostDigits = 10
 
--- those that are written
+-- the digits that the room holds
 unfoldable pub digitsIn : Digits → List ℕ
 digitsIn d = drop (d .from) (d .bytes)
 

@@ -1,5 +1,4 @@
 -- A line of text by value: what it says, and what it says after more was appended.
--- Assumes nothing.
 use Prim.Native.Nat.{ℕ, suc, _+_}
 use mathlib.Core.Path.{_≡_}
 use mathlib.Core.List.{List, _++_}
@@ -11,7 +10,7 @@ use Rattle.text.specs.declared.line.Line.{Line}
 abbrev pub room : ℕ
 room = 64
 
--- no argument, with its space, has more bytes
+-- the most bytes of an argument with its space
 abbrev pub mostArgument : ℕ
 mostArgument = suc mostDigits
 

@@ -1,5 +1,4 @@
 -- The listing page by page: what stands in the lent slice, where a page ends, and that it has a line at least where one fits.
--- Assumes nothing.
 use Prim.Native.Nat.{ℕ, zero, suc, _+_, _-_, _≤_, _<_, max}
 use mathlib.Core.Path.{_≡_}
 use mathlib.Core.Bool.{true, false}
@@ -13,7 +12,7 @@ use Rattle.text.specs.Line.{room, textOf}
 use Rattle.text.specs.declared.line.Line.{Line}
 use Rattle.text.specs.declared.page.Page.{Page}
 
--- a line laid at a place, and the place behind it; the rest is as it was
+-- a line is laid at a place of a slice, and this is the place behind it; the rest is as it was
 pub record Laid (before after : List ℕ) (at : ℕ) (l : Line) (behind : ℕ) : Type 0 where
   pub end : behind ≡ at + l .len
   pub text : after ≡ take at before ++ textOf l ++ drop behind before
@@ -22,7 +21,7 @@ pub record Laid (before after : List ℕ) (at : ℕ) (l : Line) (behind : ℕ) :
 abbrev pub linesOf : List Op → ℕ → ℕ → List ℕ
 linesOf os from next = linesFrom from (slice from next os)
 
--- these lines stand at the start, the rest is as it was
+-- the lines of the instructions from one number up to another stand at the start of a slice, the rest is as it was
 pub record Written (os : List Op) (from : ℕ) (before after : List ℕ) (next len : ℕ) : Type 0 where
   pub onward : from ≤ next
   pub inside : next ≤ max from (length os)

@@ -1,5 +1,5 @@
 -- A printed listing read back, as strictly as it is printed: a line end after each line, addresses that count up from 0, one space
--- between words, numbers of 32 bits in decimal without a zero in front. Assumes nothing.
+-- between words, numbers of 32 bits in decimal without a zero in front.
 use Prim.Native.Nat.{ℕ, suc, _≤_}
 use mathlib.Core.Path.{_≡_}
 use mathlib.Core.Bool.{Bool, true, false, _&&_}
@@ -39,29 +39,29 @@ asPrinted (some n) word = elim (same (decimal n) word) [ true ↦ some n | false
 abbrev pub numeral : List ℕ → Option ℕ
 numeral word = asPrinted (wordOf word) word
 
--- one number more
+-- a number in front of numbers, where both were read
 abbrev pub withNumber : Option ℕ → Option (List ℕ) → Option (List ℕ)
 withNumber none ns = none
 withNumber (some n) none = none
 withNumber (some n) (some ns) = some (n ∷ ns)
 
--- all words as numbers
+-- the numbers that words are, where each is a printed one
 abbrev pub numerals : List (List ℕ) → Option (List ℕ)
 numerals [] = some []
 numerals (w ∷ ws) = withNumber (numeral w) (numerals ws)
 
--- an instruction with no argument
+-- an instruction without arguments, where none are given
 abbrev pub withNone : Op → List ℕ → Option Op
 withNone o [] = some o
 withNone o (n ∷ ns) = none
 
--- with one
+-- an instruction with one argument, where one is given
 abbrev pub withOne : (ℕ → Op) → List ℕ → Option Op
 withOne o [] = none
 withOne o (n ∷ []) = some (o n)
 withOne o (n ∷ m ∷ ns) = none
 
--- with two
+-- an instruction with two arguments, where two are given
 abbrev pub withTwo : (ℕ → ℕ → Op) → List ℕ → Option Op
 withTwo o [] = none
 withTwo o (n ∷ []) = none
@@ -88,7 +88,7 @@ named name ns =
       ]
     ]
 
--- where its arguments are numbers
+-- the instruction of a mnemonic and its arguments, where these were read as numbers
 abbrev pub opNamed : List ℕ → Option (List ℕ) → Option Op
 opNamed name none = none
 opNamed name (some ns) = named name ns
@@ -98,23 +98,23 @@ pub record Placed : Type 0 where
   pub address : ℕ
   pub op : Op
 
--- where both were read
+-- an instruction at an address, where both were read
 abbrev pub placedAt : Option ℕ → Option Op → Option Placed
 placedAt none o = none
 placedAt (some a) none = none
 placedAt (some a) (some o) = some (record { address = a; op = o })
 
--- an address, a mnemonic, arguments
+-- the address and the instruction that the words of a line say
 abbrev pub readWords : List (List ℕ) → Option Placed
 readWords [] = none
 readWords (address ∷ []) = none
 readWords (address ∷ name ∷ rest) = placedAt (numeral address) (opNamed name (numerals rest))
 
--- a line without its end
+-- the address and the instruction that a line says, without its end
 abbrev pub readInner : List ℕ → Option Placed
 readInner line = readWords (parts space line)
 
--- one line, and nothing behind its end
+-- the address and the instruction that the one line of a text says, with nothing behind its end
 abbrev pub readOnly : List (List ℕ) → Option Placed
 readOnly [] = none
 readOnly (l ∷ []) = none
@@ -122,27 +122,27 @@ readOnly (l ∷ [] ∷ []) = readInner l
 readOnly (l ∷ [] ∷ m ∷ ls) = none
 readOnly (l ∷ (b ∷ bs) ∷ ls) = none
 
--- a line with its end
+-- the address and the instruction that a line says, with its end
 abbrev pub readLine : List ℕ → Option Placed
 readLine text = readOnly (parts newline text)
 
--- a line at the address that it says, and those after it
+-- the instruction of a line that says this address, and those of the lines after it
 abbrev pub readNext : ℕ → Option Placed → Option (List Op) → Option (List Op)
 readNext address none rest = none
 readNext address (some l) none = none
 readNext address (some l) (some os) = elim (eqb (l .address) address) [ true ↦ some (l .op ∷ os) | false ↦ none ]
 
--- behind the last line end stands nothing
+-- no instructions, where nothing stands behind the last line end
 abbrev pub readEnd : List ℕ → Option (List Op)
 readEnd [] = some []
 readEnd (b ∷ bs) = none
 
--- the lines from an address on
+-- the instructions that the lines from an address on say
 abbrev pub readFrom : ℕ → List (List ℕ) → Option (List Op)
 readFrom address [] = none
 readFrom address (l ∷ []) = readEnd l
 readFrom address (l ∷ m ∷ ls) = readNext address (readInner l) (readFrom (suc address) (m ∷ ls))
 
--- a listing: its lines from address 0 on
+-- the instructions that a listing says: its lines count up from address 0
 abbrev pub readListing : List ℕ → Option (List Op)
 readListing text = readFrom 0 (parts newline text)

@@ -1,5 +1,5 @@
 -- What the shipped program prints for what it reads: the compiling verdict on one line, then, if it is 0, the listing;
--- 1 at once for a count outside its limit; `bad input` for other text. Assumes nothing.
+-- 1 at once for a count outside its limit; `bad input` for other text.
 use Prim.Native.Nat.{ℕ, zero, suc, _*_}
 use mathlib.Core.List.{List, [], _∷_, _++_}
 use lib.ListN.{replicate}
@@ -12,22 +12,25 @@ use Rattle.text.specs.Decimal.{newline, decimal}
 use Rattle.text.specs.Listing.{listingText}
 use Rattle.text.specs.Input.{Read, bad, tooMany, got, program}
 
--- b a d  i n p u t in ASCII
+-- the line of a text that is no program: b a d  i n p u t in ASCII
 abbrev pub badInput : List ℕ
 badInput = 98 ∷ 97 ∷ 100 ∷ 32 ∷ 105 ∷ 110 ∷ 112 ∷ 117 ∷ 116 ∷ newline ∷ []
 
+-- the line of a verdict: its number
 abbrev pub verdictLine : ℕ → List ℕ
 verdictLine n = decimal n ++ (newline ∷ [])
 
--- compiled into a slice that holds the longest listing
+-- what is printed of a program with this verdict, compiled into a slice that holds the longest listing
 abbrev pub answered : Tables → ℕ → List ℕ
 answered T zero = verdictLine acceptedNumber ++ listingText (listingOf T)
 answered T (suc n) = verdictLine (suc n)
 
+-- what is printed of what was read
 abbrev pub printed : Read Tables → List ℕ
 printed bad = badInput
 printed tooMany = verdictLine shapeRefused
 printed (got T rest) = answered T (compileVerdict (record { tables = T; slice = replicate (wordsEach * maxCode) 0 }))
 
+-- what the shipped program prints for a text
 unfoldable pub shipped : List ℕ → List ℕ
 shipped text = printed (program text)

@@ -1,14 +1,14 @@
 // The decimal digits of a number, written from the last to the first.
 ghost use Rattle.text.specs.Digits.{Spelled};
 
-// The digits of a number, at the end of their room.
+// The digits of a number as bytes, at the end of a room of ten: they begin at place `from`.
 pub struct Digits {
     pub bytes: [u8; Digits::MOST],
     pub from: usize,
 }
 
 impl Digits {
-    // No number of 32 bits has more.
+    // No number of 32 bits has more digits.
     pub const MOST: usize = 10;
 
     // The digits of n without zeros in front; where it has more than ten, the last ten.

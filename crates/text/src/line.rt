@@ -15,7 +15,7 @@ pub struct Line {
 }
 
 impl Line {
-    // More than any line of a listing.
+    // How many bytes a line can hold: more than any line of a listing has.
     pub const ROOM: usize = 64;
 
     // The empty line.
@@ -28,7 +28,7 @@ impl Line {
         }
     }
 
-    // One byte more.
+    // The line with one byte more at its end.
     pub fn push(self, b: u8) -> Line
         requires { ⌜ self .len + 1 ≤ room ⌝ }
         ensures { λ r. ⌜ Appended self r (b ∷ []) ⌝ }
@@ -40,7 +40,7 @@ impl Line {
         next
     }
 
-    // Bytes more, as they stand.
+    // The line with these bytes more at its end.
     pub fn word(self, more: &[u8]) -> Line
         requires { ⌜ self .len + length (now more) ≤ room ⌝ }
         ensures { λ r. ⌜ Appended self r (now (more .entry)) ⌝ }
@@ -54,7 +54,7 @@ impl Line {
         next
     }
 
-    // A number more, in decimal digits.
+    // The line with a number more at its end, in decimal digits.
     pub fn number(self, n: usize) -> Line
         requires { ⌜ self .len + mostDigits ≤ room ⌝ }
         ensures { λ r. ⌜ Appended self r (decimal n) ⌝ }
@@ -65,7 +65,7 @@ impl Line {
         self.word(&bytes[from..])
     }
 
-    // A number more, after a space.
+    // The line with a space and a number more at its end, in decimal digits.
     pub fn argument(self, n: usize) -> Line
         requires { ⌜ self .len + mostArgument ≤ room ⌝ }
         ensures { λ r. ⌜ Appended self r (spaced (n ∷ [])) ⌝ }

@@ -10,7 +10,7 @@ ghost use Rattle.text.specs.Shipped.{badInput, verdictLine};
 use crate::line::Line;
 use code::numbers;
 
-// A mnemonic without arguments, where both words are 0.
+// The line with a mnemonic without arguments, where both words are 0; else the line as it was.
 fn none(start: Line, mnemonic: &[u8], first: usize, second: usize) -> Line
     requires { ⌜ length (now mnemonic) ≤ mostMnemonic ⌝ }
     requires { ⌜ start .len + mostSaid ≤ room ⌝ }
@@ -22,7 +22,7 @@ fn none(start: Line, mnemonic: &[u8], first: usize, second: usize) -> Line
     start
 }
 
-// A mnemonic with one argument, where the unused word is 0.
+// The line with a mnemonic with one argument, where the unused word is 0; else the line as it was.
 fn one(start: Line, mnemonic: &[u8], n: usize, unused: usize) -> Line
     requires { ⌜ length (now mnemonic) ≤ mostMnemonic ⌝ }
     requires { ⌜ start .len + mostSaid ≤ room ⌝ }
@@ -34,7 +34,7 @@ fn one(start: Line, mnemonic: &[u8], n: usize, unused: usize) -> Line
     start
 }
 
-// A mnemonic with two arguments.
+// The line with a mnemonic with two arguments.
 fn two(start: Line, mnemonic: &[u8], n: usize, m: usize) -> Line
     requires { ⌜ length (now mnemonic) ≤ mostMnemonic ⌝ }
     requires { ⌜ start .len + mostSaid ≤ room ⌝ }
@@ -43,7 +43,7 @@ fn two(start: Line, mnemonic: &[u8], n: usize, m: usize) -> Line
     start.word(mnemonic).argument(n).argument(m)
 }
 
-// The mnemonic and the arguments of the instruction that three words say; nothing where they say none.
+// The line with the mnemonic and the arguments of the instruction that three words say; as it was where they say none.
 fn said(start: Line, number: usize, first: usize, second: usize) -> Line
     requires { ⌜ start .len + mostSaid ≤ room ⌝ }
     ensures { λ r. ⌜ Appended start r (saidOf (decode number first second)) ⌝ }
@@ -67,14 +67,14 @@ pub fn line(address: usize, number: usize, first: usize, second: usize) -> Line
     said(start, number, first, second).push(b'\n')
 }
 
-// The line of a verdict.
+// The line of a verdict: its number.
 pub fn verdict_line(n: usize) -> Line
     ensures { λ r. ⌜ Holds r (verdictLine n) ⌝ }
 {
     Line::new().number(n).push(b'\n')
 }
 
-// The line for a text that is no program.
+// The line for a text that is no program: `bad input`.
 pub fn bad_line() -> Line
     ensures { λ r. ⌜ Holds r badInput ⌝ }
 {

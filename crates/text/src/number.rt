@@ -4,14 +4,16 @@ ghost use mathlib.Core.Option.{some};
 ghost use Rattle.text.specs.Decimal.{negative, notNegative, asWord};
 ghost use Rattle.text.specs.Part.{capped, startPart, partAfter, signedAs, wordAs, signedOf, wordIn};
 
-// No number of 32 bits is so large.
+// No number of 32 bits is so large; a larger value is held at this one.
 pub const TOO_LARGE: usize = 4294967296;
 
 // The greatest signed number; the least one is one further from 0.
 pub const FARTHEST: usize = 2147483647;
 
+// The least signed number.
 pub const LEAST: i32 = -2147483648;
 
+// The byte behind that of the digit 9.
 const PAST_NINE: u8 = 58;
 
 // What was read of a line: a minus, some digit, a byte that fits nowhere, and the value of the digits, TOO_LARGE at most.
@@ -22,18 +24,19 @@ pub struct Part {
     pub magnitude: usize,
 }
 
-// A signed number, and 0 where a line is none.
+// What a line comes to as a signed number: `ok` and the number, or 0 where the line is no signed number.
 pub struct Signed {
     pub ok: bool,
     pub value: i32,
 }
 
-// A number that is not negative, and 0 where a line is none.
+// What a line comes to as a number that is not negative: `ok` and the number, or 0 where the line is none.
 pub struct Word {
     pub ok: bool,
     pub value: u32,
 }
 
+// A value, held at TOO_LARGE.
 fn cap(n: usize) -> usize
     ensures { λ r. ⌜ r ≡ capped n ⌝ }
 {
@@ -43,7 +46,7 @@ fn cap(n: usize) -> usize
     TOO_LARGE
 }
 
-// The number whose digits have this value, after a minus, and without one.
+// The number whose digits have this value after a minus.
 fn below_zero(m: usize) -> Signed
     ensures { λ r. ⌜ r ≡ signedAs (negative (some m)) ⌝ }
 {
@@ -66,6 +69,7 @@ fn below_zero(m: usize) -> Signed
     }
 }
 
+// The number whose digits have this value without a minus.
 fn from_zero(m: usize) -> Signed
     ensures { λ r. ⌜ r ≡ signedAs (notNegative (some m)) ⌝ }
 {
@@ -108,7 +112,7 @@ impl Part {
         }
     }
 
-    // One byte more.
+    // What was read of a line after one byte more.
     pub fn feed(self, b: u8) -> Part
         ensures { λ r. ⌜ r ≡ partAfter self b ⌝ }
     {
@@ -129,7 +133,7 @@ impl Part {
         next
     }
 
-    // What the line comes to, as a signed number, and as one that is not negative.
+    // What the line comes to as a signed number.
     pub fn signed(self) -> Signed
         ensures { λ r. ⌜ r ≡ signedOf self ⌝ }
     {
@@ -145,6 +149,7 @@ impl Part {
         from_zero(self.magnitude)
     }
 
+    // What the line comes to as a number that is not negative.
     pub fn word(self) -> Word
         ensures { λ r. ⌜ r ≡ wordIn self ⌝ }
     {

@@ -11,13 +11,13 @@ use crate::listing;
 use cells::limits::Program;
 use cells::table;
 
-// How far a page goes: the number of the first instruction that is not on it, and how many bytes it has.
+// How far a page goes: `next` is the first instruction that is not on it, and `len` how many bytes it has.
 pub struct Page {
     pub next: usize,
     pub len: usize,
 }
 
-// The line of an instruction of a code.
+// The line of instruction i of a code.
 fn line_at(code: &[u32], i: usize) -> Line
     requires { ⌜ i < length (now code) / wordsEach ⌝ }
     ensures { λ r. ⌜ Holds r (lineOf i (getD (instructions (now (code .entry))) i faulty)) ⌝ }
@@ -29,7 +29,7 @@ fn line_at(code: &[u32], i: usize) -> Line
     listing::line(i, number, first, second)
 }
 
-// A line laid at a place of a slice; the place behind it is returned.
+// A line is laid at a place of a slice. The place behind it is returned.
 pub fn lay(out: &mut [u8], at: usize, line: Line) -> usize
     requires { ⌜ at + room ≤ length (now out) ⌝ }
     requires { ⌜ line .len ≤ room ⌝ }
@@ -45,7 +45,7 @@ pub fn lay(out: &mut [u8], at: usize, line: Line) -> usize
     at + n
 }
 
-// The lines of the instructions from number `from` on, at the start of a slice, as long as it has room for any line.
+// The lines of the instructions from number `from` on are laid at the start of a slice, as long as it has room for any line.
 pub fn fill(code: &[u32], from: usize, out: &mut [u8]) -> Page
     ensures { λ r. ⌜ Filled (instructions (now (code .entry))) from (now (out .entry)) (now (out .exit)) r ⌝ }
 {

@@ -1,5 +1,4 @@
 -- Truth values: what two tests say together, and how a test's claim follows its connectives.
--- Assumes nothing.
 use mathlib.Core.Path.{_≡_, refl, sym, _∙_}
 use mathlib.Core.Bool.{Bool, true, false, not, _&&_, _||_, true≢false}
 use mathlib.Core.Logic.{_⊎_, inl, inr, _↔_}
@@ -9,11 +8,11 @@ use lib.Dec.{ltb, leb, eqb}
 use borrow.Author.Tests.{ltb-true, ltb-false, leb-true, leb-false, eqb-true, eqb-false, not-true, not-false}
 use Rattle.theory.specs.Claim.{Says, Bars}
 
--- a test cannot pass and fail
+-- a test cannot both pass and fail
 pub clash {ℓ} : {X : Type ℓ} {b : Bool} → b ≡ true → b ≡ false → X
 clash p q = absurd (true≢false (sym p ∙ q))
 
--- where one or the other fails, both do
+-- where "one or the other" fails, both tests fail
 pub neither : (a b : Bool) → (a || b) ≡ false → (a ≡ false) × (b ≡ false)
 neither true b e = clash {b = true} refl e
 neither false b e = (refl, e)
@@ -24,12 +23,12 @@ iff true b f g = sym (f refl)
 iff false true f g = g refl
 iff false false f g = refl
 
--- the claim holds: the test passes
+-- a test passes where the claim that it says holds
 pub is-true : {b : Bool} {P : Type 0} → Says b P → P → b ≡ true
 is-true {b = true} s p = refl
 is-true {b = false} s p = absurd (s .no refl p)
 
--- the claim does not hold: the test fails
+-- a test fails where the claim that it says does not hold
 pub is-false : {b : Bool} {P : Type 0} → Says b P → (P → ⊥) → b ≡ false
 is-false {b = true} s n = absurd (n (s .yes refl))
 is-false {b = false} s n = refl
@@ -39,12 +38,12 @@ pub says-not : {b : Bool} {P : Type 0} → Says b P → Says (not b) (P → ⊥)
 says-not {b = true} s = record { yes = λ e. clash {b = false} e refl; no = λ e n. n (s .yes refl) }
 says-not {b = false} s = record { yes = λ e. s .no refl; no = λ e. clash {b = true} refl e }
 
--- both tests: both claims
+-- the test that both tests pass says both claims
 pub says-and : {a b : Bool} {P Q : Type 0} → Says a P → Says b Q → Says (a && b) (P × Q)
 says-and {a = true} s t = record { yes = λ e. (s .yes refl, t .yes e); no = λ e r. t .no e (r .1) }
 says-and {a = false} s t = record { yes = λ e. clash {b = false} e refl; no = λ e r. s .no refl (r .0) }
 
--- either test: either claim
+-- the test that either test passes says one of the claims
 pub says-or : {a b : Bool} {P Q : Type 0} → Says a P → Says b Q → Says (a || b) (P ⊎ Q)
 says-or {a = true} s t = record { yes = λ e. inl (s .yes refl); no = λ e. clash {b = true} refl e }
 says-or {a = false} {b} {P} {Q} s t = record { yes = λ e. inr (t .yes e); no = λ e. go e }
@@ -53,19 +52,19 @@ says-or {a = false} {b} {P} {Q} s t = record { yes = λ e. inr (t .yes e); no = 
     go e (inl p) = s .no refl p
     go e (inr q) = t .no e q
 
--- another way to put the claim
+-- a test that says a claim says it in other words too
 pub says-as : {b : Bool} {P Q : Type 0} → Says b P → (P → Q) → (Q → P) → Says b Q
 says-as s f g = record { yes = λ e. f (s .yes e); no = λ e q. s .no e (g q) }
 
--- the test of "below" says it
+-- the test of "below" says that a number is below another
 pub says-lt : (a b : ℕ) → Says (ltb a b) (a < b)
 says-lt a b = record { yes = ltb-true a b; no = λ e l. omega (arith, ltb-false a b e) }
 
--- the test of "at most" says it
+-- the test of "at most" says that a number is at most another
 pub says-le : (a b : ℕ) → Says (leb a b) (a ≤ b)
 says-le a b = record { yes = leb-true a b; no = λ e l. omega (arith, leb-false a b e) }
 
--- the test of equality says it
+-- the test of equality says that two numbers are equal
 pub says-eq : (a b : ℕ) → Says (eqb a b) (a ≡ b)
 says-eq a b = record { yes = eqb-true a b; no = eqb-false a b }
 
@@ -83,36 +82,36 @@ pub bars-not : {b : Bool} {P : Type 0} → Says b P → Bars (not b) P
 bars-not {b = true} s = record { ok = λ e. s .yes refl; bad = λ e. clash {b = false} e refl }
 bars-not {b = false} s = record { ok = λ e. clash {b = true} refl e; bad = λ e p. s .no refl p }
 
--- bad where P: where P, the claim
+-- a test that bars Q, asked only where a claim P holds, bars that Q follows from P
 pub bars-and : {a b : Bool} {P Q : Type 0} → Says a P → Bars b Q → Bars (a && b) (P → Q)
 bars-and {a = true} s t = record { ok = λ e p. t .ok e; bad = λ e f. t .bad e (f (s .yes refl)) }
 bars-and {a = false} s t = record { ok = λ e p. absurd (s .no refl p); bad = λ e. clash {b = false} e refl }
 
--- another way to put the claim that is barred
+-- a test that bars a claim bars it in other words too
 pub bars-as : {b : Bool} {P Q : Type 0} → Bars b P → (P → Q) → (Q → P) → Bars b Q
 bars-as s f g = record { ok = λ e. f (s .ok e); bad = λ e q. s .bad e (g q) }
 
 infixl 30 _or_
--- either test is bad: both claims
+-- the test that either test is bad bars both claims together
 pub _or_ : {a b : Bool} {P Q : Type 0} → Bars a P → Bars b Q → Bars (a || b) (P × Q)
 _or_ {a = true} s t = record { ok = λ e. clash {b = true} refl e; bad = λ e r. s .bad refl (r .0) }
 _or_ {a = false} s t = record { ok = λ e. (s .ok refl, t .ok e); bad = λ e r. t .bad e (r .1) }
 
 infixl 35 _and_
--- both tests pass: both claims. It is `says-and`, written as the test is
+-- the test that both tests pass says both claims: it is `says-and`, written as the test is
 pub _and_ : {a b : Bool} {P Q : Type 0} → Says a P → Says b Q → Says (a && b) (P × Q)
 s and t = says-and s t
 
--- not the one test, or the other: where the one claim holds, the other does
+-- the test "not the one, or the other" says that the other claim follows from the one
 pub says-implies : {a b : Bool} {P Q : Type 0} → Says a P → Says b Q → Says (not a || b) (P → Q)
 says-implies {a = true} s t = record { yes = λ e p. t .yes e; no = λ e f. t .no e (f (s .yes refl)) }
 says-implies {a = false} s t = record { yes = λ e p. absurd (s .no refl p); no = λ e. clash {b = true} refl e }
 
--- "above its limit" bars "within its limit"
+-- the test that a limit is exceeded bars being within the limit
 pub bars-lt : (a b : ℕ) → Bars (ltb a b) (b ≤ a)
 bars-lt a b = bars-as (bars-says (says-lt a b)) (λ n. omega arith) (λ l. omega arith)
 
--- "at or past the end" bars "before the end"
+-- the test of being at or past the end bars being before the end
 pub bars-le : (a b : ℕ) → Bars (leb a b) (b < a)
 bars-le a b = bars-as (bars-says (says-le a b)) (λ n. omega arith) (λ l. omega arith)
 

@@ -1,6 +1,5 @@
 -- Some element of a list has a property: what that means of images, kept elements, joined lists and rows that pass a test; and members
 -- of a list of numbers.
--- Assumes nothing.
 use Prim.Native.Nat.{ℕ, zero, suc, _+_, _≤_, _<_}
 use mathlib.Core.Path.{_≡_, refl, sym, ap, subst, _∙_}
 use mathlib.Core.Bool.{Bool, true, false, _&&_, _||_}
@@ -16,24 +15,24 @@ use Rattle.theory.proofs.Bools.{clash, says-or, says-eq}
 use Rattle.theory.proofs.Lists.{keep-all}
 
 module _ {A : Type 0} where
-  -- some element has Q
+  -- some element of the list has property Q
   abbrev pub Has : (A → Type 0) → List A → Type 0
   Has Q [] = ⊥
   Has Q (x ∷ xs) = Q x ⊎ Has Q xs
 
-  -- what follows of any element that has Q
+  -- what follows from any element that has Q follows where some element has Q
   pub has-then : {R : Type 0} (Q : A → Type 0) (xs : List A) → ((x : A) → Q x → R) → Has Q xs → R
   has-then Q [] f h = absurd h
   has-then Q (x ∷ xs) f (inl q) = f x q
   has-then Q (x ∷ xs) f (inr h) = has-then Q xs f h
 
-  -- an element that has Q has what follows
+  -- where some element has Q, some element has what follows from Q
   pub has-as : (Q S : A → Type 0) (xs : List A) → ((x : A) → Q x → S x) → Has Q xs → Has S xs
   has-as Q S [] f h = h
   has-as Q S (x ∷ xs) f (inl q) = inl (f x q)
   has-as Q S (x ∷ xs) f (inr h) = inr (has-as Q S xs f h)
 
-  -- of the elements kept, and so of those that pass
+  -- some element that is kept has Q exactly where some element passes and has Q
   pub has-keep : (Q : A → Type 0) (p : A → Bool) (xs : List A) → Has Q (keep p xs) ↔ Has (λ x. (p x ≡ true) × Q x) xs
   has-keep Q p [] = (λ h. h, λ h. h)
   has-keep Q p (x ∷ xs) = go (p x) refl (has-keep Q p xs)
@@ -46,7 +45,7 @@ module _ {A : Type 0} where
       go true e i = (⊎-elim (λ q. inl (e, q)) (λ h. inr (i .0 h)), ⊎-elim (λ r. inl (r .1)) (λ h. inr (i .1 h)))
       go false e i = (λ h. inr (i .0 h), ⊎-elim (λ r. clash (r .0) e) (i .1))
 
-  -- of one list or of the other
+  -- some element of a joined list has Q exactly where one of the first list or of the second has
   has-append : (Q : A → Type 0) (xs ys : List A) → Has Q (xs ++ ys) ↔ (Has Q xs ⊎ Has Q ys)
   has-append Q [] ys = (inr, ⊎-elim (λ h. absurd h) (λ h. h))
   has-append Q (x ∷ xs) ys =
@@ -55,7 +54,7 @@ module _ {A : Type 0} where
         ⊎-elim (⊎-elim inl (λ h. inr (i .1 (inl h)))) (λ h. inr (i .1 (inr h))),
       )
 
-  -- of n rows from row i₀ on, those that pass
+  -- of n rows from row i₀ on, some row that passes has Q: in `those`, and by its number
   has-those-from : (Q : A → Type 0) (p : ℕ → Bool) (row : ℕ → A) (n i₀ : ℕ)
       → Has Q (those p row n i₀) ↔ ((i : ℕ) × (i₀ ≤ i) × (i < i₀ + n) × (p i ≡ true) × Q (row i))
   has-those-from Q p row zero i₀ = (λ h. absurd h, λ w. absurd (omega arith))
@@ -85,7 +84,7 @@ module _ {A : Type 0} where
         λ w. ⊎-elim (λ s. clash (w .3) (subst (λ j. p j ≡ false) s e)) (r .1) (now w),
       )
 
-  -- of the rows that pass: one of them has it
+  -- of n rows, some row that passes has Q: in `those`, and by its number
   pub has-those : (Q : A → Type 0) (p : ℕ → Bool) (row : ℕ → A) (n : ℕ)
       → Has Q (those p row n 0) ↔ ((i : ℕ) × (i < n) × (p i ≡ true) × Q (row i))
   has-those Q p row n =
@@ -93,13 +92,13 @@ module _ {A : Type 0} where
       (λ h. let w = r .0 h in (w .0, omega arith, w .3, w .4), λ w. r .1 (w .0, omega arith, omega arith, w .2, w .3))
 
 module _ {A B : Type 0} where
-  -- of the images
+  -- some image has Q exactly where some element is one whose image has
   pub has-map : (Q : B → Type 0) (f : A → B) (xs : List A) → Has Q (map f xs) ↔ Has (λ x. Q (f x)) xs
   has-map Q f [] = (λ h. h, λ h. h)
   has-map Q f (x ∷ xs) =
       let i = has-map Q f xs in (⊎-elim inl (λ h. inr (i .0 h)), ⊎-elim inl (λ h. inr (i .1 h)))
 
-  -- of the lists of all of them
+  -- some element of joined lists has Q exactly where some of the lists has such an element
   pub has-gather : (Q : B → Type 0) (f : A → List B) (xs : List A) → Has Q (gather f xs) ↔ Has (λ x. Has Q (f x)) xs
   has-gather Q f [] = (λ h. h, λ h. h)
   has-gather Q f (x ∷ xs) =
@@ -112,11 +111,11 @@ pub member-says : (n : ℕ) (xs : List ℕ) → Says (member n xs) (Has (λ x. n
 member-says n [] = record { yes = λ e. clash {b = false} e refl; no = λ e h. h }
 member-says n (x ∷ xs) = says-or (says-eq n x) (member-says n xs)
 
--- the first is a member
+-- the first element of a list is a member
 pub member-head : (j : ℕ) (js : List ℕ) → member j (j ∷ js) ≡ true
 member-head j js = rw (eq-eqb j j refl)
 
--- a member of the rest is a member
+-- a member of the rest of a list is a member
 pub member-tail : (j i : ℕ) (js : List ℕ) → member j js ≡ true → member j (i ∷ js) ≡ true
 member-tail j i js h = go (eqb j i)
   where
@@ -124,7 +123,7 @@ member-tail j i js h = go (eqb j i)
     go true = refl
     go false = h
 
--- some of them passes: this one
+-- where some element passes, here is a member that does
 pub some-one : (p : ℕ → Bool) (js : List ℕ) → some p js ≡ true → (j : ℕ) × (member j js ≡ true) × (p j ≡ true)
 some-one p [] h = clash {b = false} h refl
 some-one p (i ∷ js) h = go (p i) refl h (some-one p js)
@@ -134,7 +133,7 @@ some-one p (i ∷ js) h = go (p i) refl h (some-one p js)
     go true e h r = (i, member-head i js, e)
     go false e h r = let w = r h in (w .0, member-tail (w .0) i js (w .1), w .2)
 
--- none of them passes: no member does
+-- where no element passes, no member does
 pub none-of : (p : ℕ → Bool) (js : List ℕ) → some p js ≡ false → (j : ℕ) → member j js ≡ true → p j ≡ false
 none-of p [] h j m = clash {b = false} m refl
 none-of p (i ∷ js) h j m = go (p i) refl (eqb j i) refl h m (none-of p js)
@@ -145,7 +144,7 @@ none-of p (i ∷ js) h j m = go (p i) refl (eqb j i) refl h m (none-of p js)
     go false e true d h m r = rw (eqb-true j i d) e
     go false e false d h m r = r h j m
 
--- what holds of each member holds of all
+-- a claim that holds of each member holds of all elements
 pub every-member : (Q : ℕ → Type 0) (xs : List ℕ) → ((x : ℕ) → member x xs ≡ true → Q x) → Every Q xs
 every-member Q [] h = tt
 every-member Q (x ∷ xs) h = (h x (member-head x xs), every-member Q xs (λ y m. h y (member-tail y x xs m)))

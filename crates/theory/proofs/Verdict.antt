@@ -10,12 +10,12 @@ use native.Mathlib.Omega.{arith}
 use Rattle.theory.specs.Claim.{Bars}
 use Rattle.theory.specs.Verdict.{acceptedNumber, orElse, Refusal, within, verdict, Rule, holding, First, Keep, after}
 
--- a number that was given stays
+-- of two verdicts, a first that refuses stays
 pub after-given : (m n : ℕ) → acceptedNumber < m → after m n ≡ m
 after-given zero n l = absurd (omega arith)
 after-given (suc m) n l = refl
 
--- there is neither
+-- two verdicts together accept only where each accepts
 pub after-none : (m n : ℕ) → after m n ≡ acceptedNumber → (m ≡ acceptedNumber) × (n ≡ acceptedNumber)
 after-none zero n e = (refl, e)
 after-none (suc m) n e = absurd (omega arith)
@@ -28,7 +28,7 @@ module _ {A : Type 0} where
   Barred (r ∷ rs) [] a = ⊥
   Barred (r ∷ rs) (g ∷ gs) a = (r .number ≡ g .number) × Bars (r .applies a) (g .holds a) × (g .holds a → Barred rs gs a)
 
-  -- the verdict's number, and no other, is the first that applies
+  -- the verdict is the number of the first rule that is broken, and no other number is
   pub verdict-first : (rs : List (Refusal A)) (gs : List (Rule A)) (a : A) → Barred rs gs a → (n : ℕ) → (verdict rs a ≡ n) ↔ First gs a n
   verdict-first [] [] a w n = (λ e. sym e, λ e. sym e)
   verdict-first [] (g ∷ gs) a w n = absurd w
@@ -53,7 +53,7 @@ module _ {A : Type 0} where
   Numbered [] = Unit {0}
   Numbered (g ∷ gs) = (g .number ≡ acceptedNumber → ⊥) × Numbered gs
 
-  -- accepted exactly where every rule holds
+  -- the number of acceptance is the first exactly where every rule holds
   pub first-none : (gs : List (Rule A)) (a : A) → Numbered gs → First gs a acceptedNumber ↔ Keep gs a
   first-none [] a w = (λ e. tt, λ e. refl)
   first-none (g ∷ gs) a w = (there (first-none gs a (w .1) .0), λ k. inr (k .0, first-none gs a (w .1) .1 (k .1)))
@@ -63,7 +63,7 @@ module _ {A : Type 0} where
       there ih (inl x) = absurd (w .0 (sym (x .1)))
       there ih (inr x) = (x .0, ih (x .1))
 
-  -- any two numbers that are the first to apply are equal
+  -- any two numbers of the first rule that is broken are equal
   pub first-one : (gs : List (Rule A)) (a : A) (n m : ℕ) → First gs a n → First gs a m → n ≡ m
   first-one [] a n m p q = p ∙ sym q
   first-one (g ∷ gs) a n m p q = go (first-one gs a n m) p q
@@ -74,7 +74,7 @@ module _ {A : Type 0} where
       go ih (inr x) (inl y) = absurd (y .0 (x .0))
       go ih (inr x) (inr y) = ih (x .1) (y .1)
 
-  -- no test applies
+  -- no test of a list of refusals applies
   abbrev pub Clear : List (Refusal A) → A → Type 0
   Clear [] a = Unit {0}
   Clear (r ∷ rs) a = (r .applies a ≡ false) × Clear rs a
@@ -84,7 +84,7 @@ module _ {A : Type 0} where
   Refused [] = Unit {0}
   Refused (r ∷ rs) = (r .number ≡ acceptedNumber → ⊥) × Refused rs
 
-  -- accepted: no test applies
+  -- where the verdict accepts, no test applies
   pub verdict-clear : (rs : List (Refusal A)) (a : A) → Refused rs → verdict rs a ≡ acceptedNumber → Clear rs a
   verdict-clear [] a w e = tt
   verdict-clear (r ∷ rs) a w e = go (r .applies a) refl e (verdict-clear rs a (w .1))
@@ -94,12 +94,12 @@ module _ {A : Type 0} where
       go true q z ih = absurd (w .0 z)
       go false q z ih = (q, ih z)
 
-  -- no test applies: accepted
+  -- where no test applies, the verdict accepts
   pub clear-verdict : (rs : List (Refusal A)) (a : A) → Clear rs a → verdict rs a ≡ acceptedNumber
   clear-verdict [] a c = refl
   clear-verdict (r ∷ rs) a c = rw (c .0, verdict) (clear-verdict rs a (c .1))
 
-  -- of two lists of refusals, one after the other
+  -- the verdict of two lists of refusals is that of the first, and of the second where the first accepts
   pub verdict-append : (rs qs : List (Refusal A)) (a : A) → Refused rs → verdict (rs ++ qs) a ≡ after (verdict rs a) (verdict qs a)
   verdict-append [] qs a w = refl
   verdict-append (r ∷ rs) qs a w = go (r .applies a) (r .number) (w .0) (verdict-append rs qs a (w .1))
@@ -110,12 +110,12 @@ module _ {A : Type 0} where
       go true (suc n) d ih = refl
       go false n d ih = ih
 
-  -- each refusal's number is such a one
+  -- the number of each refusal of a list has the property N
   abbrev pub Among : (ℕ → Type 0) → List (Refusal A) → Type 0
   Among N [] = Unit {0}
   Among N (r ∷ rs) = N (r .number) × Among N rs
 
-  -- so is the verdict, where the number of acceptance is one too
+  -- the verdict has the property N where every refusal's number and the number of acceptance have it
   pub verdict-among : (N : ℕ → Type 0) → N acceptedNumber → (rs : List (Refusal A)) (a : A) → Among N rs → N (verdict rs a)
   verdict-among N z [] a w = z
   verdict-among N z (r ∷ rs) a w = go (r .applies a) (verdict-among N z rs a (w .1))
@@ -129,17 +129,17 @@ module _ {A : Type 0} where
   verdict-skip [] qs a c = refl
   verdict-skip (r ∷ rs) qs a c = (λ i. orElse (c .0 i) (r .number) (verdict (rs ++ qs) a)) ∙ verdict-skip rs qs a (c .1)
 
-  -- accepted by them together: by each
+  -- where two lists of refusals together accept, each accepts
   pub verdict-both : (rs qs : List (Refusal A)) (a : A) → Refused rs → verdict (rs ++ qs) a ≡ acceptedNumber
       → (verdict rs a ≡ acceptedNumber) × (verdict qs a ≡ acceptedNumber)
   verdict-both rs qs a w e = after-none (verdict rs a) (verdict qs a) (sym (verdict-append rs qs a w) ∙ e)
 
--- a refusal in a call that is lent more has the same number
+-- a list of refusals has the same verdict in a call that is lent more
 pub verdict-within : {A B : Type 0} (f : B → A) (rs : List (Refusal A)) (b : B) → verdict (map (within f) rs) b ≡ verdict rs (f b)
 verdict-within f [] b = refl
 verdict-within f (r ∷ rs) b = ap (orElse (r .applies (f b)) (r .number)) (verdict-within f rs b)
 
--- tests and rules of a call that is lent more, and of two lists one after the other
+-- tests that bar their rules bar them in a call that is lent more
 pub barred-within : {A B : Type 0} (f : B → A) (rs : List (Refusal A)) (gs : List (Rule A)) (b : B) → Barred rs gs (f b)
     → Barred (map (within f) rs) (map (holding f) gs) b
 barred-within f [] [] b w = tt
@@ -147,6 +147,7 @@ barred-within f [] (g ∷ gs) b w = absurd w
 barred-within f (r ∷ rs) [] b w = absurd w
 barred-within f (r ∷ rs) (g ∷ gs) b w = (w .0, w .1, λ h. barred-within f rs gs b (w .2 h))
 
+-- two lists of tests that bar their rules, one after the other, bar them
 pub barred-append : {A : Type 0} (rs qs : List (Refusal A)) (gs hs : List (Rule A)) (a : A)
     → Barred rs gs a → Barred qs hs a → Barred (rs ++ qs) (gs ++ hs) a
 barred-append [] qs [] hs a w v = v

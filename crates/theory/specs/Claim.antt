@@ -1,5 +1,4 @@
 -- A Bool test and the claim that it decides.
--- Assumes nothing.
 use mathlib.Core.Path.{_≡_}
 use mathlib.Core.Bool.{Bool, true, false}
 

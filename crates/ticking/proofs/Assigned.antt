@@ -1,5 +1,5 @@
 -- What all copies of a driver and all outputs of a task assign, row by row, is what the program says of them; and a driver
--- assigns nothing unless its guard holds. Assumes nothing.
+-- assigns nothing unless its guard holds.
 use Prim.Native.Nat.{ℕ}
 use mathlib.Core.Path.{_≡_, refl, sym, ap, _∙_}
 use mathlib.Core.Bool.{Bool, true, false}
@@ -15,13 +15,13 @@ use Rattle.program.specs.Program.{copyRow, driverRow, portsOf}
 use Rattle.program.specs.Ports.{valueOf, takes, moves, drive}
 use Rattle.ticking.specs.Values.{copyPut, copied, isOutputRow, outputPut}
 
--- row c of the copies is one of driver d
+-- row c of the copies is a copy of driver d
 abbrev pub isCopyOf : Tables → ℕ → ℕ → Bool
 isCopyOf T d c = eqb (copyDriver T c) d
 
 module _ (T : Tables) where
   module _ (d : ℕ) (v : List ℤ) where
-    -- the rows of the copies that are the driver's
+    -- what the rows of the copies that are the driver's assign is what the driver's copies do
     pub copies-all : (copies : List ℤ) → T .copies ≡ copies
         → puts (those (isCopyOf T d) (copyPut T v) (rowsIn copyWidth copies) 0) v ≡ copied T d v
     copies-all copies e =
@@ -32,15 +32,15 @@ module _ (T : Tables) where
     pub drive-copies : holds (guardOf T d) (valueOf v) ≡ true → copied T d v ≡ drive (driverRow T d) v
     drive-copies e = rw (e, moves) refl
 
-    -- a guard that does not lets it do nothing
+    -- a guard that does not hold lets the driver do nothing
     pub drive-nothing : holds (guardOf T d) (valueOf v) ≡ false → v ≡ drive (driverRow T d) v
     drive-nothing e = rw (e, moves) refl
 
-  -- the rows of the task ports that are outputs of the task
-  pub outputs-all : (t : ℕ) (lent v taskPorts : List ℤ) → T .taskPorts ≡ taskPorts
-      → puts (those (isOutputRow T t) (outputPut T lent) (rowsIn taskPortWidth taskPorts) 0) v
-      ≡ puts (takes (valueOf lent) (portsOf T output t)) v
+  -- what the rows of the task ports that are outputs of the task assign is what its outputs take
+  pub outputs-all : (t : ℕ) (given v taskPorts : List ℤ) → T .taskPorts ≡ taskPorts
+      → puts (those (isOutputRow T t) (outputPut T given) (rowsIn taskPortWidth taskPorts) 0) v
+      ≡ puts (takes (valueOf given) (portsOf T output t)) v
   unfolding isOutputRow
-  outputs-all t lent v taskPorts e =
-      ap (λ (l : List ℤ). puts (those (isOutputRow T t) (outputPut T lent) (rowsIn taskPortWidth l) 0) v) (sym e)
+  outputs-all t given v taskPorts e =
+      ap (λ (l : List ℤ). puts (those (isOutputRow T t) (outputPut T given) (rowsIn taskPortWidth l) 0) v) (sym e)
       ∙ ap (λ (l : List Put). puts l v) (sym (map-those _ (isOutputRow T t) (taskPortPort T) (taskPortCount T) 0))

@@ -10,7 +10,7 @@ use Rattle.machine.specs.declared.State.{State}
 use Rattle.machine.specs.Schedules.{outputsAt, outputsAfter}
 use Rattle.ticking.specs.Joined.{outputsBy}
 
--- the outputs of a declared task are those of its rows
+-- the local outputs after a tick of a declared task are those that its rows of the task ports give
 pub outputs-declared : (T : Tables) (results : List ℤ) (s : State) (t : ℕ) → t < taskCount T
     → outputsBy T results s t ≡ outputsAfter (programOf T) results s t
 outputs-declared T results s t l =

@@ -1,4 +1,5 @@
 -- What the code of a tick comes to.
+pub mod Ends
 pub mod Rowwise
 pub mod Assigned
 pub mod Joining

@@ -1,5 +1,5 @@
 -- Assignments made row by row: a row puts its value or leaves the values as they are, and from every row on, the rows left
--- come to what all rows come to. Assumes nothing.
+-- come to what all rows come to.
 use Prim.Native.Nat.{ℕ, _+_, _-_, _<_, _≤_}
 use mathlib.Core.Path.{_≡_, refl, sym, ap, ap₂, _∙_}
 use mathlib.Core.Bool.{Bool, true, false}
@@ -15,7 +15,7 @@ use Rattle.ticking.specs.Values.{putRow}
 pub row-put : (b : Bool) (a : Put) (v : List ℤ) (at : ℕ) (x : ℤ) → b ≡ true → at ≡ a .place → x ≡ a .value → set v at x ≡ putRow b a v
 row-put b a v at x e f g = ap₂ (set v) f g ∙ rw (e, putRow) refl
 
--- any other leaves the values as they are
+-- a row that is not asked for leaves the values as they are
 pub row-kept : (b : Bool) (a : Put) (v : List ℤ) → b ≡ false → v ≡ putRow b a v
 row-kept b a v e = rw (e, putRow) refl
 
@@ -24,13 +24,13 @@ pub record RowsPut (asked : ℕ → Bool) (put : ℕ → Put) (n : ℕ) (first :
   pub rest : puts (those asked put (n - i) i) so-far ≡ puts (those asked put n 0) first
 
 module _ {asked : ℕ → Bool} {put : ℕ → Put} {n : ℕ} {first : List ℤ} where
-  -- no row is put yet
+  -- before any row is put, all rows are left
   pub rows-begun : RowsPut asked put n first 0 first
   rows-begun =
       let z : n - 0 ≡ n = omega arith in record { rest = ap (λ (k : ℕ). puts (those asked put k 0) first) z }
 
   module _ {i : ℕ} {so-far : List ℤ} where
-    -- one row more
+    -- after one row more, the rows left come to the same
     pub rows-more : (next : List ℤ) → i < n → next ≡ putRow (asked i) (put i) so-far
         → RowsPut asked put n first i so-far → RowsPut asked put n first (i + 1) next
     rows-more next l e h = record { rest = go (asked i) refl e }
@@ -44,6 +44,6 @@ module _ {asked : ℕ → Bool} {put : ℕ → Put} {n : ℕ} {first : List ℤ}
         go false f g =
             ap (puts left) g ∙ sym (ap (λ (rows : List Put). puts rows so-far) (those-no asked put n i l f)) ∙ h .rest
 
-    -- all rows are put
+    -- after all rows are put, the values are what all rows come to
     pub rows-ended : n ≤ i → RowsPut asked put n first i so-far → so-far ≡ puts (those asked put n 0) first
     rows-ended l h = sym (ap (λ (rows : List Put). puts rows so-far) (those-end asked put n i l)) ∙ h .rest

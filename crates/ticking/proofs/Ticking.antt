@@ -11,18 +11,19 @@ use Rattle.cells.specs.Refusals.{collisionRefused}
 use Rattle.program.specs.Tables.{Tables, taskCount}
 use Rattle.program.specs.Program.{Program}
 use Rattle.runs.specs.declared.turn.Turn.{Turn}
-use Rattle.runs.specs.Tick.{rest, run, after, afterTurn}
+use Rattle.runs.specs.Tick.{rest, work, after, afterTurn}
 use Rattle.runs.proofs.Turns.{turn-after}
 use Rattle.suppliers.specs.Schedule.{Rows}
 use Rattle.machine.specs.declared.State.{State}
 use Rattle.machine.specs.declared.Running.{Running}
 use Rattle.machine.specs.declared.Shares.{Shares}
 use Rattle.machine.specs.Instant.{ok}
-use Rattle.machine.specs.Schedules.{Who, nobody, one, several, told, running, sharesOf, outputsAfter, tickPassed, afterTick, ticked, tickAll}
+use Rattle.machine.specs.Schedules.{Who, nobody, one, several, told, running, sharesOf, outputsAfter, tickPassed, afterTick, ticked}
+use Rattle.machine.specs.Schedules.{tickAll}
 use Rattle.machine.specs.Advance.{answer}
 use Rattle.machine.proofs.Declared.{running-declared}
 
--- the state with outputs, time stamp, elapsed and remaining ticks of the next one
+-- the state s with other outputs, the next time stamp, one elapsed tick more and other remaining ticks
 abbrev counted : State → List ℤ → ℕ → ℕ → State
 counted s outputs time remaining = record {
   ports = s .ports;
@@ -36,7 +37,7 @@ counted s outputs time remaining = record {
   positions = s .positions;
 }
 
--- the state with remaining times and positions of the next one
+-- the state s with other remaining times and positions
 abbrev placed : State → List ℕ → List ℕ → State
 placed s left positions = record {
   ports = s .ports;
@@ -50,7 +51,7 @@ placed s left positions = record {
   positions = positions;
 }
 
--- both together: the tick has passed
+-- with other outputs, ticks, remaining times and positions the state is that after the tick
 pub passes : (s next : State) (left : List ℕ) (outputs : List ℤ) (positions : List ℕ) (time remaining : ℕ)
     → next ≡ counted s outputs time remaining
     → time ≡ (s .time + 1) % 2 ^ 32
@@ -65,11 +66,11 @@ abbrev turnIn : Running → Turn
 turnIn r = record { position = 0; runs = eqb (r .count) 1; job = r .job }
 
 module _ (S : List ℤ) (s : State) (all : Shares) (is-all : all ≡ sharesOf S s) where
-  -- who runs, as it is handed on
+  -- what the code hands on tells who runs
   handed : (w : Who) → running S s ≡ w → all .running ≡ told w
   handed w e = ap (λ (a : Shares). a .running) is-all ∙ ap told e
 
-  -- and how many do
+  -- what the code hands on tells how many run
   counts : (w : Who) → running S s ≡ w → all .running .count ≡ told w .count
   counts w e = ap (λ (r : Running). r .count) (handed w e)
 
@@ -85,7 +86,7 @@ module _ (S : List ℤ) (s : State) (all : Shares) (is-all : all ≡ sharesOf S 
       go several e = absurd (omega (arith, counts several e))
 
   module _ (P : Program) (results : List ℤ) where
-    -- two run: 18, with the state as before
+    -- where two run, the answer is 18 with the state as before
     pub tick-collides : 1 < all .running .count → record { number = collisionRefused; state = s } ≡ answer s (tickAll P S results s)
     tick-collides h = go (running S s) refl
       where
@@ -97,14 +98,14 @@ module _ (S : List ℤ) (s : State) (all : Shares) (is-all : all ≡ sharesOf S 
     -- the code's remaining times, outputs and next state
     module _ (left : List ℕ) (outputs : List ℤ) (next : State)
         (is-left : left ≡ afterTurn (turnIn (all .running)) (s .left)) (is-next : next ≡ tickPassed s left outputs (all .positions)) where
-      -- where the first two are those of the definition, so is the answer
+      -- where remaining times and outputs are those of the definition, so is the answer
       comes : (left′ : List ℕ) (outputs′ : List ℤ) → left ≡ left′ → outputs ≡ outputs′
           → record { number = acceptedNumber; state = next } ≡ answer s (ok (afterTick S s left′ outputs′))
       comes left′ outputs′ l o =
           let p : all .positions ≡ sharesOf S s .positions = ap (λ (a : Shares). a .positions) is-all in
           ap (λ (u : State). record { number = acceptedNumber; state = u }) is-next ∙ (λ i. record { number = acceptedNumber; state = tickPassed s (l i) (o i) (p i) })
 
-      -- nobody runs: outputs and remaining times are as before
+      -- where nobody runs, outputs and remaining times are as before
       pub tick-rests : all .running .count ≡ 0 → outputs ≡ s .outputs
           → record { number = acceptedNumber; state = next } ≡ answer s (tickAll P S results s)
       tick-rests h o = go (running S s) refl
@@ -116,7 +117,7 @@ module _ (S : List ℤ) (s : State) (all : Shares) (is-all : all ≡ sharesOf S 
           go (one t) e = absurd (omega (arith, counts (one t) e))
           go several e = absurd (omega (arith, counts several e))
 
-      -- one runs: it has a tick less to run
+      -- where one task runs, it has a tick less to run
       pub tick-runs : all .running .count ≡ 1 → outputs ≡ outputsAfter P results s (all .running .job .0)
           → record { number = acceptedNumber; state = next } ≡ answer s (tickAll P S results s)
       tick-runs h o = go (running S s) refl
@@ -124,8 +125,8 @@ module _ (S : List ℤ) (s : State) (all : Shares) (is-all : all ≡ sharesOf S 
           go : (w : Who) → running S s ≡ w → record { number = acceptedNumber; state = next } ≡ answer s (ticked P S results s w)
           go nobody e = absurd (omega (arith, counts nobody e))
           go (one t) e =
-              let l : left ≡ after (run t) (s .left) =
-              is-left ∙ ap (λ (r : Running). afterTurn (turnIn r) (s .left)) (handed (one t) e) ∙ turn-after 0 (run t) (s .left) in
+              let l : left ≡ after (work t) (s .left) =
+              is-left ∙ ap (λ (r : Running). afterTurn (turnIn r) (s .left)) (handed (one t) e) ∙ turn-after 0 (work t) (s .left) in
               let p : outputs ≡ outputsAfter P results s t = o ∙ ap (λ (r : Running). outputsAfter P results s (r .job .0)) (handed (one t) e) in
-              comes (after (run t) (s .left)) (outputsAfter P results s t) l p
+              comes (after (work t) (s .left)) (outputsAfter P results s t) l p
           go several e = absurd (omega (arith, counts several e))

@@ -9,7 +9,9 @@ use lib.IntN.{ℤ}
 use lib.ListN.{length, getD, set}
 use Rattle.theory.specs.Lists.{each}
 use Rattle.theory.proofs.Filled.{filled, filled-more, filled-beyond, filled-all}
+use Rattle.cells.specs.Cell.{nameOf}
 use Rattle.cells.specs.Limits.{suppliers}
+use Rattle.cells.specs.declared.kinds.Task.{Task}
 use Rattle.runs.specs.declared.block.Span.{Span}
 use Rattle.runs.specs.declared.turn.Turn.{Turn}
 use Rattle.runs.specs.Tick.{Row, turnOf, turn}
@@ -20,7 +22,7 @@ use Rattle.machine.specs.declared.Running.{Running}
 use Rattle.machine.specs.declared.Shares.{Shares}
 use Rattle.machine.specs.Schedules.{told, whoRuns, actOf, movedOf, sharesOf}
 use Rattle.ticking.specs.Joined.{joinTold}
-use Rattle.ticking.proofs.Joining.{joined-told}
+use Rattle.ticking.proofs.Joining.{none-told, joined-told}
 
 module _ (S : List ℤ) (s : State) where
   -- before supplier j, from row `from` on: the suppliers below j had their turns, and no later supplier's block begins before that row
@@ -36,9 +38,9 @@ module _ (S : List ℤ) (s : State) where
       let w = found-within S j (s .current) from l in
       subst (λ (at : Span). (at .begin ≤ at .end) × (at .end ≤ scheduleCount S)) (sym is-found) (w .1, w .2)
 
-  -- the walk begins
-  pub walk-begun : Walked (s .positions) (told (whoRuns (actOf S s) 0)) 0 0
-  walk-begun = record { behind = behind-none S 0 (s .current); moved = refl; who = refl }
+  -- the walk begins at row 0, before supplier 0
+  pub walk-begun : (t : Task) → t .0 ≡ nameOf 0 → Walked (s .positions) (record { count = 0; job = t }) 0 0
+  walk-begun t e = record { behind = behind-none S 0 (s .current); moved = refl; who = none-told 0 t e }
 
   -- supplier j has its turn t on the block that is found
   pub walk-more : (positions : List ℕ) (running : Running) (from j : ℕ) (at : Span) (block : List ℤ) (t : Turn) (next : Running)
@@ -69,18 +71,18 @@ module _ (S : List ℤ) (s : State) where
       position : getD positions j 0 ≡ getD (s .positions) j 0
       position = ap (λ (l : List ℕ). getD l j 0) (h .moved) ∙ filled-beyond (movedOf S s) (s .positions) 0 j j (omega arith)
 
-      -- so the turn is its own
+      -- the turn of a supplier on the part that the walk found is its own turn
       own-turn : t ≡ turnOf (movedOf S s j) (actOf S s j)
       own-turn = is-turn ∙ ap₂ (λ (rows : List Row) (position : ℕ). turn rows (s .elapsed) (record { position = position; left = s .left })) rows position
 
-  -- the first n suppliers had their turns
+  -- once the first n suppliers had their turns, who runs and the positions are those of n suppliers
   walk-all : (positions : List ℕ) (running : Running) (from n : ℕ) → length (s .positions) ≡ n → Walked positions running from n
       → _≡_ {A = Shares} (record { running = running; positions = positions })
       (record { running = told (whoRuns (actOf S s) n); positions = each (movedOf S s) n 0 })
   walk-all positions running from n k h =
       ap₂ (λ (r : Running) (l : List ℕ). record { running = r; positions = l }) (h .who) (h .moved ∙ filled-all (movedOf S s) (s .positions) 0 n k)
 
-  -- all suppliers had theirs: these are the shares of the tick
+  -- once all suppliers had their turns, who runs and the positions are the shares of the tick
   pub walk-ended : (positions : List ℕ) (running : Running) (from j : ℕ) → j ≡ suppliers → length (s .positions) ≡ suppliers
       → Walked positions running from j → record { running = running; positions = positions } ≡ sharesOf S s
   walk-ended positions running from j e k h =

@@ -1,5 +1,5 @@
 -- How the code joins the turns of a tick and takes what a task puts out in it, whatever it is handed. For what a tick hands on, the
--- one is `join` and the other `outputsAfter` (Schedules). Assumes nothing.
+-- one is `join` and the other `outputsAfter` (Schedules).
 use Prim.Native.Nat.{ℕ}
 use mathlib.Core.Bool.{true, false}
 use mathlib.Core.List.{List}
@@ -12,7 +12,7 @@ use Rattle.machine.specs.declared.State.{State}
 use Rattle.machine.specs.declared.Running.{Running}
 use Rattle.machine.specs.Schedules.{several, told, outputsAt}
 
--- one supplier's turn more
+-- who runs, of the suppliers before and the one that has turn t
 unfoldable pub joinTold : Running → Turn → Running
 joinTold before t = elim (t .runs) [
   | true ↦ elim (eqb (before .count) 0) [ true ↦ record { count = 1; job = t .job } | false ↦ told several ]

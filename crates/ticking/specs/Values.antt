@@ -1,4 +1,4 @@
--- Port values row by row: what one row of the copies or of the task ports puts among them. Assumes nothing.
+-- Port values row by row: what one row of the copies or of the task ports puts among them.
 use Prim.Native.Nat.{ℕ}
 use mathlib.Core.Bool.{Bool, true, false, _&&_}
 use mathlib.Core.List.{List}
@@ -11,15 +11,15 @@ use Rattle.program.specs.Sets.{isKind}
 use Rattle.program.specs.Program.{driverRow}
 use Rattle.program.specs.Ports.{valueOf, copyPuts}
 
--- the assignment is made, if the row is one of those asked for
+-- the values after a row's assignment, which is made if the row is one of those asked for
 abbrev pub putRow : Bool → Put → List ℤ → List ℤ
 putRow b a v = elim b [ true ↦ set v (a .place) (a .value) | false ↦ v ]
 
--- row c of the copies moves its source, among the old values, to its destination
+-- row c of the copies assigns what its source has among the old values to its destination
 abbrev pub copyPut : Tables → List ℤ → ℕ → Put
 copyPut T old c = record { place = copyDestination T c; value = valueOf old (copySource T c) }
 
--- what a driver moves when its guard holds
+-- the values after a driver whose guard holds
 abbrev pub copied : Tables → ℕ → List ℤ → List ℤ
 copied T d v = puts (copyPuts v (driverRow T d)) v
 
@@ -27,6 +27,6 @@ copied T d v = puts (copyPuts v (driverRow T d)) v
 unfoldable pub isOutputRow : Tables → ℕ → ℕ → Bool
 isOutputRow T t k = eqb (taskPortTask T k) t && isKind T output (taskPortPort T k)
 
--- it takes its value among those lent
+-- row k of the task ports assigns what its port has among the given values to that port
 abbrev pub outputPut : Tables → List ℤ → ℕ → Put
-outputPut T lent k = record { place = taskPortPort T k; value = valueOf lent (taskPortPort T k) }
+outputPut T given k = record { place = taskPortPort T k; value = valueOf given (taskPortPort T k) }

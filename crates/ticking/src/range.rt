@@ -6,24 +6,27 @@ ghost use Rattle.theory.specs.Search.{any};
 ghost use Rattle.cells.specs.Limits.{suppliers, maxTasks, maxLeft};
 ghost use Rattle.runs.specs.Tick.{leftOf};
 ghost use Rattle.machine.specs.Advance.{stateOut};
+use cells::kinds::Task;
 use cells::limits::Program;
+use cells::tasks;
 use machine::State;
 
-// A task's remaining time exceeds the limit.
+// Some task's remaining time exceeds the limit.
 fn some_long(left: [usize; Program::TASKS]) -> bool
     ensures { λ r. ⌜ r ≡ any (λ t. ltb maxLeft (leftOf left t)) maxTasks ⌝ }
 {
-    let mut t = 0;
-    while t < Program::TASKS {
-        if Program::LEFT < left[t] {
+    let end = Task::of(Program::TASKS);
+    let mut t = Task::of(0);
+    while !t.is(end) {
+        if Program::LEFT < tasks::left(&left, t) {
             return true;
         }
-        t += 1;
+        t = t.next();
     }
     false
 }
 
-// A position exceeds the schedule's rows.
+// Some supplier's position is past the rows of the schedule.
 fn some_far(positions: [usize; Program::SUPPLIERS], rows: usize) -> bool
     ensures { λ r. ⌜ r ≡ any (λ j. ltb rows (getD positions j 0)) suppliers ⌝ }
 {
@@ -37,7 +40,7 @@ fn some_far(positions: [usize; Program::SUPPLIERS], rows: usize) -> bool
     false
 }
 
-// Number 21, where the code has so many instructions and the schedule so many rows.
+// The state breaks number 21, where the code has so many instructions and the schedule so many rows.
 pub fn out_of_range(instructions: usize, rows: usize, s: State) -> bool
     ensures { λ r. ⌜ r ≡ stateOut instructions rows s ⌝ }
 {

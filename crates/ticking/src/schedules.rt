@@ -14,6 +14,7 @@ use crate::values;
 use cells::kinds::Task;
 use cells::limits::Program;
 use cells::refusals;
+use cells::tasks;
 use machine::Advanced;
 use machine::Running;
 use machine::Shares;
@@ -22,7 +23,7 @@ use runs::block;
 use runs::turn;
 use runs::turn::Turn;
 
-// One supplier's turn more.
+// Who runs in a tick, of the suppliers before and the one that has turn t.
 fn join(before: Running, t: Turn) -> Running
     ensures { λ r. ⌜ r ≡ joinTold before t ⌝ }
 {
@@ -35,11 +36,11 @@ fn join(before: Running, t: Turn) -> Running
     }
     Running {
         count: 2,
-        job: Task(0),
+        job: Task::of(0),
     }
 }
 
-// All suppliers' turns, each on its block, a part of the schedule: one walk over the rows finds them all.
+// Who runs in a tick and the positions after it: each supplier has its turn on its block, and one walk over the rows finds all blocks.
 fn turns(rows: &[i32], s: State) -> Shares
     requires { ⌜ s .current ≤ greatestWord ⌝ }
     ensures { λ r. ⌜ (Sorted (now (rows .entry)) → r ≡ sharesOf (now (rows .entry)) s) ⌝ }
@@ -48,7 +49,7 @@ fn turns(rows: &[i32], s: State) -> Shares
     let mut positions = s.positions;
     let mut running = Running {
         count: 0,
-        job: Task(0),
+        job: Task::of(0),
     };
     let mut from = 0;
     let mut j = 0;
@@ -63,7 +64,7 @@ fn turns(rows: &[i32], s: State) -> Shares
     Shares { running, positions }
 }
 
-// The local outputs after a tick of task t: its results where it completes.
+// The local outputs after a tick of task t, which take its results where it completes.
 fn outputs_after(
     ports: &[i32],
     task_ports: &[i32],
@@ -76,13 +77,13 @@ fn outputs_after(
 {
     let left = s.left;
     let outputs = s.outputs;
-    if turn::left_of(&left, t) == 1 {
+    if tasks::left(&left, t) == 1 {
         return values::outputs_taken(ports, task_ports, t, results, outputs);
     }
     outputs
 }
 
-// The tick has passed: after the last time stamp comes 0.
+// The state after a tick that leaves these remaining times, outputs and positions; after the last time stamp comes 0.
 fn tick_passed(
     s: State,
     left: [usize; Program::TASKS],
@@ -104,7 +105,7 @@ fn tick_passed(
     next
 }
 
-// One tick of all suppliers: 18 if two run, or the state after it.
+// One tick of all suppliers: number 18 if two run, or the state after the tick.
 pub fn tick_all(
     ports: &[i32],
     task_ports: &[i32],

@@ -15,24 +15,25 @@ use cells::kinds::Driver;
 use cells::kinds::Port;
 use cells::kinds::Task;
 use cells::limits::Program;
+use cells::ports;
 use cells::table;
 use program::guard;
 use program::members;
 
-// Row i of the copies, if it is one of driver d: its source among the old values is put into the new.
+// Row i of the copies, if it is one of driver d, puts what its source has among the old values into the new values.
 fn copy_row(copies: &[i32], d: Driver, old: &[i32], i: usize, new: &mut [i32])
     ensures { λ _. ⌜ ((T : Tables) → T .copies ≡ now (copies .entry)
         → now (new .exit) ≡ putRow (eqb (copyDriver T i) (d .0)) (copyPut T (now (old .entry)) i) (now (new .entry))) ⌝ }
 {
     let own = table::driver(copies, copy::WIDTH, i, copy::DRIVER);
-    if own.index() == d.index() {
+    if own.is(d) {
         let source = table::port(copies, copy::WIDTH, i, copy::SOURCE);
         let destination = table::port(copies, copy::WIDTH, i, copy::DESTINATION);
-        table::put_value(new, destination.index(), table::value(old, source.index()));
+        ports::put(new, destination, ports::value(old, source));
     }
 }
 
-// All copies of driver d: every source is read before any destination is written.
+// The values after all copies of driver d; every source is read before any destination is written.
 fn copied(copies: &[i32], d: Driver, values: [i32; Program::PORTS]) -> [i32; Program::PORTS]
     ensures { λ r. ⌜ ((T : Tables) → T .copies ≡ now (copies .entry) → r ≡ copied T (d .0) values) ⌝ }
 {
@@ -46,7 +47,7 @@ fn copied(copies: &[i32], d: Driver, values: [i32; Program::PORTS]) -> [i32; Pro
     next
 }
 
-// What driver d makes of the values: it copies only when its guard holds.
+// The values after driver d, which copies only when its guard holds.
 pub fn driven(
     drivers: &[i32],
     copies: &[i32],
@@ -62,47 +63,47 @@ pub fn driven(
     values
 }
 
-// Row k of the task ports, if it is an output of task t: its value among those lent is put.
+// Row k of the task ports, if it is an output of task t, puts what its port has among the given values into the values.
 fn output_row(
     ports: &[i32],
     task_ports: &[i32],
     t: Task,
-    lent: &[i32],
+    given: &[i32],
     k: usize,
     values: &mut [i32],
 )
     ensures { λ _. ⌜ ((T : Tables) → T .ports ≡ now (ports .entry) → T .taskPorts ≡ now («task_ports» .entry)
-        → now (values .exit) ≡ putRow (isOutputRow T (t .0) k) (outputPut T (now (lent .entry)) k) (now (values .entry))) ⌝ }
+        → now (values .exit) ≡ putRow (isOutputRow T (t .0) k) (outputPut T (now (given .entry)) k) (now (values .entry))) ⌝ }
 {
     let own = table::task(task_ports, task_port::WIDTH, k, task_port::TASK);
     let p = table::port(task_ports, task_port::WIDTH, k, task_port::PORT);
-    if (own.index() == t.index()) & members::is_kind(ports, port::OUTPUT, p) {
-        table::put_value(values, p.index(), table::value(lent, p.index()));
+    if own.is(t) & members::is_kind(ports, port::OUTPUT, p) {
+        ports::put(values, p, ports::value(given, p));
     }
 }
 
-// All outputs of task t take their values among those lent.
+// The values after each output of task t has taken what it has among the given values.
 pub fn outputs_taken(
     ports: &[i32],
     task_ports: &[i32],
     t: Task,
-    lent: &[i32],
+    given: &[i32],
     values: [i32; Program::PORTS],
 ) -> [i32; Program::PORTS]
     ensures { λ r. ⌜ ((T : Tables) → T .ports ≡ now (ports .entry) → T .taskPorts ≡ now («task_ports» .entry)
-        → r ≡ puts (takes (valueOf (now (lent .entry))) (portsOf T output (t .0))) values) ⌝ }
+        → r ≡ puts (takes (valueOf (now (given .entry))) (portsOf T output (t .0))) values) ⌝ }
 {
     let n = task_ports.len() / task_port::WIDTH;
     let mut next = values;
     let mut k = 0;
     while k < n {
-        output_row(ports, task_ports, t, lent, k, &mut next);
+        output_row(ports, task_ports, t, given, k, &mut next);
         k += 1;
     }
     next
 }
 
-// Port p takes its reading.
+// The values after port p has taken its reading.
 pub fn reading_taken(
     readings: &[i32],
     p: Port,
@@ -111,19 +112,20 @@ pub fn reading_taken(
     ensures { λ r. ⌜ r ≡ set values (p .0) (valueOf (now (readings .entry)) (p .0)) ⌝ }
 {
     let mut next = values;
-    table::put_value(&mut next, p.index(), table::value(readings, p.index()));
+    ports::put(&mut next, p, ports::value(readings, p));
     next
 }
 
-// The first value of each port, 0 where none is declared.
+// The first value of each port; 0 where no port is declared.
 pub fn first_values(ports: &[i32]) -> [i32; Program::PORTS]
     ensures { λ r. ⌜ ((T : Tables) → T .ports ≡ now (ports .entry) → r ≡ each (portFirst T) maxPorts 0) ⌝ }
 {
     let mut values = [0; Program::PORTS];
-    let mut p = 0;
-    while p < Program::PORTS {
-        values[p] = table::signed(ports, port::WIDTH, p, port::FIRST);
-        p += 1;
+    let end = Port::of(Program::PORTS);
+    let mut p = Port::of(0);
+    while !p.is(end) {
+        ports::put(&mut values, p, ports::first(ports, p));
+        p = p.next();
     }
     values
 }

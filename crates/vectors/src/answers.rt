@@ -5,7 +5,7 @@ use crate::supplier_cases;
 use crate::window_cases;
 use cases::numbers;
 use cases::out;
-use cases::out::Answer;
+use cases::out::Outcome;
 use cases::stream;
 use cases::stream::Reader;
 use libc::STDOUT_FILENO;
@@ -13,8 +13,8 @@ use machine_cases::advance;
 use machine_cases::long;
 use machine_cases::programs;
 
-// The next case, answered. A refused reader reads nothing, and nothing is printed for it.
-fn case(kind: &[u8], r: Reader, buffer: &mut [u8]) -> Answer {
+// Answers the next case of a kind. A refused reader reads nothing, and nothing is printed for it.
+fn case(kind: &[u8], r: Reader, buffer: &mut [u8]) -> Outcome {
     if check::same(kind, b"verdict") {
         return programs::case(r, buffer, false);
     }
@@ -39,41 +39,41 @@ fn case(kind: &[u8], r: Reader, buffer: &mut [u8]) -> Answer {
     if check::same(kind, b"long") {
         return long::case(r, buffer);
     }
-    Answer {
+    Outcome {
         reader: r,
         known: false,
         written: true,
     }
 }
 
-// So many cases, and nothing after them.
-fn each(kind: &[u8], r: Reader, buffer: &mut [u8], n: usize) -> Answer {
+// Answers n cases of a kind, after which the file must end.
+fn each(kind: &[u8], r: Reader, buffer: &mut [u8], n: usize) -> Outcome {
     let mut reader = r;
     let mut i = 0;
     while i < n {
-        let answer = case(kind, reader, buffer);
-        reader = answer.reader;
-        if !reader.ok | !answer.written {
-            return answer;
+        let outcome = case(kind, reader, buffer);
+        reader = outcome.reader;
+        if !reader.ok | !outcome.written {
+            return outcome;
         }
         i += 1;
     }
     let end = numbers::finish(reader, buffer);
-    Answer {
+    Outcome {
         reader: end,
         known: true,
         written: true,
     }
 }
 
-// An open file.
+// Answers the cases of an open file; false where a write failed.
 fn opened(kind: &[u8], name: &[u8], fd: i32, buffer: &mut [u8]) -> bool {
     let amount = numbers::count(stream::open(fd), buffer);
-    let answer = each(kind, amount.reader, buffer, amount.value);
-    if !answer.written {
+    let outcome = each(kind, amount.reader, buffer, amount.value);
+    if !outcome.written {
         return false;
     }
-    let reader = answer.reader;
+    let reader = outcome.reader;
     if reader.failed {
         os::fail(name);
     }
@@ -83,7 +83,8 @@ fn opened(kind: &[u8], name: &[u8], fd: i32, buffer: &mut [u8]) -> bool {
     out::say(b"bad input: ", name)
 }
 
-// The cases of the file of this name; false where a write failed. A case of a refused reader tells whether the kind is known.
+// Answers the cases of the file of this name, if its kind is known; false where a write failed.
+// (A case of a refused reader tells whether the kind is known.)
 fn cases_of(kind: &[u8], name: &[u8], fd: i32) -> bool {
     let mut buffer = io::buffer();
     let asked = case(kind, stream::refused(stream::open(0)), &mut buffer);
@@ -93,7 +94,8 @@ fn cases_of(kind: &[u8], name: &[u8], fd: i32) -> bool {
     opened(kind, name, fd, &mut buffer)
 }
 
-// The file of this name. One of the kind `main` is what the shipped program reads, and its body answers it.
+// Answers the file of this name; false where a write failed. One of the kind `main` is what the shipped program reads, and is answered
+// by its body.
 pub fn file(name: &[u8]) -> bool {
     let kind = kind::of(name);
     let fd = os::open_read(name);

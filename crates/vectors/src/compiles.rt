@@ -1,7 +1,7 @@
 // The kind `compile`: a program and how many words are lent a case; its verdict, length and the words written a line.
 use cases::numbers;
 use cases::out;
-use cases::out::Answer;
+use cases::out::Outcome;
 use cases::room;
 use cases::stream::Reader;
 use cases::tables;
@@ -11,15 +11,15 @@ use cells::parts::words;
 use cells::table;
 use code::Compiled;
 
-// So many words can be lent; no listing needs as many.
+// How many words can be lent to a compilation at most; no listing needs as many.
 const LENT: usize = 20480;
 
-// A program that was read, compiled.
+// Compiles a program that was read, into the words lent.
 fn compiled(l: Lengths, room: &[i32], code: &mut [u32]) -> Compiled {
-    compiler::compile(&tables::lent(l, room), l.program, code)
+    compiler::compile(&tables::tables_in(l, room), l.program, code)
 }
 
-// These words, each after a space; false where one could not be written.
+// Prints words of E code, each after a space; false where one could not be written.
 fn listed(code: &[u32]) -> bool {
     let mut i = 0;
     while i < code.len() {
@@ -31,7 +31,7 @@ fn listed(code: &[u32]) -> bool {
     true
 }
 
-// The line of a program that was read, with so many words lent.
+// Writes the line of a program that was read, with n words lent; false where it could not be written.
 fn judged(l: Lengths, room: &[i32], code: &mut [u32], n: usize) -> bool {
     let end = least(n, code.len());
     let answer = compiled(l, room, &mut code[..end]);
@@ -47,7 +47,8 @@ fn judged(l: Lengths, room: &[i32], code: &mut [u32], n: usize) -> bool {
     out::line_end()
 }
 
-pub fn case(r: Reader, buffer: &mut [u8]) -> Answer {
+// Answers a case of the kind `compile`.
+pub fn case(r: Reader, buffer: &mut [u8]) -> Outcome {
     let mut room = [0i32; room::ALL];
     let mut code = [0u32; LENT];
     let l = tables::program(r, buffer, &mut room);
@@ -55,14 +56,14 @@ pub fn case(r: Reader, buffer: &mut [u8]) -> Answer {
     let reader = amount.reader;
     let known = true;
     if !reader.ok {
-        return Answer {
+        return Outcome {
             reader,
             known,
             written: true,
         };
     }
     let written = judged(l, &room, &mut code, amount.value);
-    Answer {
+    Outcome {
         reader,
         known,
         written,

@@ -2,7 +2,7 @@
 ghost use Prim.Native.Nat.{_≤_};
 ghost use lib.ListN.{length};
 
-// Where the last component begins.
+// Where the last component of a path begins.
 fn last(name: &[u8]) -> usize
     ensures { λ r. ⌜ r ≤ length (now (name .entry)) ⌝ }
 {
@@ -18,7 +18,7 @@ fn last(name: &[u8]) -> usize
     from
 }
 
-// Where the first dot stands, or the end.
+// Where the first dot of a name stands; its end where there is none.
 fn dot(name: &[u8]) -> usize
     ensures { λ r. ⌜ r ≤ length (now (name .entry)) ⌝ }
 {
@@ -32,6 +32,7 @@ fn dot(name: &[u8]) -> usize
     name.len()
 }
 
+// The kind of the file of this path.
 pub fn of(name: &[u8]) -> &[u8] {
     let from = last(name);
     let whole = &name[from..];

@@ -7,7 +7,7 @@ mod window_cases;
 
 use libc::STDOUT_FILENO;
 
-// All cases of the file that argument i names; false where a write failed. A name that does not fit the buffer is cut to it,
+// Answers all cases of the file that argument i names; false where a write failed. A name that does not fit the buffer is cut to it,
 // and no file has so long a name.
 fn answer(i: usize) -> bool {
     let mut name = io::buffer();

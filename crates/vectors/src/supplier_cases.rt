@@ -2,14 +2,14 @@
 use cases::numbers;
 use cases::numbers::Number;
 use cases::out;
-use cases::out::Answer;
+use cases::out::Outcome;
 use cases::room;
 use cases::stream::Reader;
 use cases::tables;
 use cases::tables::Lengths;
 use cells::parts::part;
 
-// What was read of a case: a program, how many numbers of its windows and of the part, and the supplier.
+// What was read of a case: a program, how many numbers of its windows and of the part were kept, and the supplier.
 struct Asked {
     program: Lengths,
     windows: usize,
@@ -17,6 +17,7 @@ struct Asked {
     supplier: Number,
 }
 
+// Reads a case: program, windows, part of the schedule and supplier.
 fn read_case(
     r: Reader,
     buffer: &mut [u8],
@@ -44,11 +45,11 @@ fn verdict(
     rows: &[i32],
     supplier: i32,
 ) -> suppliers::Answer {
-    let lent = tables::lent(l, room);
-    acceptance::supplier_verdict(&lent, l.program, windows, rows, supplier)
+    let all = tables::tables_in(l, room);
+    acceptance::supplier_verdict(&all, l.program, windows, rows, supplier)
 }
 
-// Its line; false where it could not be written. A refused reader has none.
+// Writes the line of a case that was read; false where it could not be written. A refused reader has no line.
 fn judged(a: Asked, room: &[i32], windows: &[i32], rows: &[i32]) -> bool {
     let supplier = a.supplier;
     let reader = supplier.reader;
@@ -74,7 +75,8 @@ fn judged(a: Asked, room: &[i32], windows: &[i32], rows: &[i32]) -> bool {
     out::line_end()
 }
 
-pub fn case(r: Reader, buffer: &mut [u8]) -> Answer {
+// Answers a case of the kind `supplier`.
+pub fn case(r: Reader, buffer: &mut [u8]) -> Outcome {
     let mut room = [0i32; room::ALL];
     let mut windows = [0i32; room::WINDOWS];
     let mut rows = [0i32; room::PART];
@@ -82,7 +84,7 @@ pub fn case(r: Reader, buffer: &mut [u8]) -> Answer {
     let written = judged(a, &room, &windows, &rows);
     let supplier = a.supplier;
     let reader = supplier.reader;
-    Answer {
+    Outcome {
         reader,
         known: true,
         written,

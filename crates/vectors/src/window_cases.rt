@@ -1,19 +1,20 @@
 // The kind `windows`: a program and its windows a case, the windows verdict a line.
 use cases::out;
-use cases::out::Answer;
+use cases::out::Outcome;
 use cases::room;
 use cases::stream::Reader;
 use cases::tables;
 use cases::tables::Lengths;
 use cells::parts::part;
 
-// The line of a program that was read, with its windows; false where it could not be written.
+// Writes the line of a program that was read, with its windows; false where it could not be written.
 fn judged(l: Lengths, room: &[i32], windows: &[i32]) -> bool {
-    let lent = tables::lent(l, room);
-    out::number(acceptance::windows_verdict(&lent, l.program, windows))
+    let all = tables::tables_in(l, room);
+    out::number(acceptance::windows_verdict(&all, l.program, windows))
 }
 
-pub fn case(r: Reader, buffer: &mut [u8]) -> Answer {
+// Answers a case of the kind `windows`.
+pub fn case(r: Reader, buffer: &mut [u8]) -> Outcome {
     let mut room = [0i32; room::ALL];
     let mut windows = [0i32; room::WINDOWS];
     let l = tables::program(r, buffer, &mut room);
@@ -21,14 +22,14 @@ pub fn case(r: Reader, buffer: &mut [u8]) -> Answer {
     let reader = kept.reader;
     let known = true;
     if !reader.ok {
-        return Answer {
+        return Outcome {
             reader,
             known,
             written: true,
         };
     }
     let written = judged(l, &room, part(&windows, 0, kept.len));
-    Answer {
+    Outcome {
         reader,
         known,
         written,

@@ -15,18 +15,18 @@ use Rattle.theory.proofs.Bools.{neither}
 use Rattle.theory.proofs.Conditions.{cond-yes, cond-no}
 use Rattle.verdict.specs.Asked.{appliesBy}
 
--- some number stands twice
+-- some number stands twice in a list
 abbrev pub twice : List ℕ → Bool
 twice [] = false
 twice (n ∷ ns) = some (λ m. eqb m n) ns || twice ns
 
--- none passes: so the one at a place does not
+-- where no number of a list passes, the one at a place does not
 none-at : (p : ℕ → Bool) (ns : List ℕ) (k d : ℕ) → k < length ns → some p ns ≡ false → p (getD ns k d) ≡ false
 none-at p [] k d l e = absurd (omega arith)
 none-at p (n ∷ ns) zero d l e = neither (p n) (some p ns) e .0
 none-at p (n ∷ ns) (suc k) d l e = none-at p ns k d (omega arith) (neither (p n) (some p ns) e .1)
 
--- a number is none of these, as a `match` leaves it
+-- the number n is none of a list, as a `match` leaves it
 abbrev pub Other : Type 0 → List ℕ → ℕ → Type 0
 Other W [] n = W
 Other W (m ∷ ms) n = Other (W × (n ≡ m → ⊥)) ms n
@@ -36,7 +36,7 @@ module _ {A : Type 0} where
   abbrev pub numbers : List (Refusal A) → List ℕ
   numbers = map (λ (r : Refusal A). r .number)
 
-  -- the one at a place
+  -- the number of the refusal at a place, and that of acceptance past the last
   abbrev pub numberAt : List (Refusal A) → ℕ → ℕ
   numberAt rs k = getD (numbers rs) k acceptedNumber
 
@@ -57,11 +57,11 @@ module _ {A : Type 0} where
           go qs j (once .1) (omega arith)
           ∙ sym (ap (λ (b : Bool). orElse b (numberAt qs j) (verdict (drop (suc j) qs) a)) (cond-no (q .applies a) _ later))
 
-  -- a number applies as another that it equals
+  -- a number applies where a number that it equals does
   pub applies-as : (rs : List (Refusal A)) (a : A) {n k : ℕ} {b : Bool} → n ≡ k → b ≡ appliesBy rs k a → b ≡ appliesBy rs n a
   applies-as rs a e h = h ∙ sym (ap (λ (m : ℕ). appliesBy rs m a) e)
 
-  -- and one that no refusal has does not
+  -- a number that no refusal of a list has does not apply
   pub applies-other : (W : Type 0) (rs : List (Refusal A)) (a : A) (n : ℕ) → Other W (numbers rs) n → W × (appliesBy rs n a ≡ false)
   applies-other W [] a n h = (h, refl)
   applies-other W (r ∷ rs) a n h =

@@ -8,21 +8,22 @@ ghost use Rattle.verdict.specs.Asked.{appliesBy};
 use cells::limits::Program;
 use cells::refusals;
 use cells::tables;
-use declared::copies;
-use declared::mode_ports;
-use declared::task_ports;
-use fields::searches;
-use fields::slices;
-use modes::invocations;
-use modes::switches;
-use modes::units;
-use modes::updates;
-use modes::whole;
 use program::rows;
+use rules_1_2::searches;
+use rules_1_2::slices;
+use rules_3_5::copies;
+use rules_3_5::mode_ports;
+use rules_3_5::task_ports;
+use rules_6_10::invocations;
+use rules_6_10::switches;
+use rules_6_10::units;
+use rules_6_10::updates;
+use rules_6_10::whole;
 
-// The numbers up to 10 after 1, in the order in which they are asked.
+// How many numbers are asked of tables that have their shape: 2 to 10.
 const ASKED: usize = 9;
 
+// The numbers 2 to 10, in the order in which they are asked.
 const ORDER: [usize; ASKED] = [
     refusals::FIELDS,
     refusals::TASK_PORTS,
@@ -35,7 +36,7 @@ const ORDER: [usize; ASKED] = [
     refusals::WHOLE,
 ];
 
-// One of them applies to tables that have their shape; another number never does.
+// This number, one of 2 to 10, applies to tables that have their shape; any other number never does.
 fn applies(tables: &[&[i32]; Program::TABLES], program: Program, number: usize) -> bool
     requires { ⌜ InShape (now tables) ⌝ }
     ensures { λ r. ⌜ r ≡ appliesBy tableRefusals number (tablesIn (now (tables .entry)) (program .start)) ⌝ }
@@ -62,7 +63,10 @@ fn applies(tables: &[&[i32]; Program::TABLES], program: Program, number: usize) 
         refusals::SWITCHES => {
             switches::first_wrong_switch(tables) < rows::count(tables, tables::SWITCHES)
         }
-        refusals::UNITS => units::first_wrong_units(tables) < rows::count(tables, tables::MODES),
+        refusals::UNITS => {
+            let m = units::first_wrong_units(tables);
+            cells::modes::declared(tables[tables::MODES], m)
+        }
         refusals::WHOLE => {
             whole::first_not_whole(tables[tables::INVOCATIONS], tables[tables::SWITCHES])
                 < rows::count(tables, tables::SWITCHES)
@@ -71,7 +75,7 @@ fn applies(tables: &[&[i32]; Program::TABLES], program: Program, number: usize) 
     }
 }
 
-// Numbers 2 to 10 of tables that have their shape: what every call asks of a program after its own 1.
+// The first of numbers 2 to 10 that applies to tables in shape, as every call asks it after its own number 1; 0 where none does.
 pub fn table_verdict(tables: &[&[i32]; Program::TABLES], program: Program) -> usize
     requires { ⌜ InShape (now tables) ⌝ }
     ensures { λ r. ⌜ r ≡ verdict tableRefusals (tablesIn (now (tables .entry)) (program .start)) ⌝ }
@@ -87,7 +91,7 @@ pub fn table_verdict(tables: &[&[i32]; Program::TABLES], program: Program) -> us
     refusals::ACCEPTED
 }
 
-// Any slices at all may be lent.
+// The verdict on a program: the first of numbers 1 to 10 that applies, of any slices at all; 0 where none does.
 pub fn program_verdict(tables: &[&[i32]; Program::TABLES], program: Program) -> usize
     ensures { λ r. ⌜ r ≡ programVerdict (tablesIn (now (tables .entry)) (program .start)) ⌝ }
 {

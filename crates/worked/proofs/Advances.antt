@@ -1,5 +1,4 @@
 -- F's first advance meets the premises of what is said of an accepted advance. (Refused ones: Refused.antt.)
--- Assumes nothing.
 use Prim.Native.Nat.{_<_, _+_, _/_, _%_, _^_}
 use mathlib.Core.Path.{_≡_, refl}
 use mathlib.Core.Bool.{false}

@@ -1,6 +1,5 @@
 -- What the other calls answer, of programs and schedule code by name: document 01's rows of a supplier's verdict and one refused with 13, a
 -- fresh state, accepted and refused, and compiling into a slice that is too short.
--- Assumes nothing.
 use Prim.Native.Nat.{ℕ, _<_}
 use mathlib.Core.Path.{_≡_, refl}
 use mathlib.Core.List.{List, [], _∷_}
@@ -39,7 +38,7 @@ outside-at-9 = supplier-exact (asked 6 (window 0 9) (programs.schedule 1 0)) .ou
 pub late-at-5 : BreaksAt (asked 4 (window 0 10) (programs.schedule 0 1)) 0 (late 5)
 late-at-5 = supplier-exact (asked 4 (window 0 10) (programs.schedule 0 1)) .late-at 0 5 .0 t1-first .1
 
--- 13 has no place: supplier 8
+-- an answer of 13 has no place: supplier 8 is none
 abbrev stranger : Asked
 stranger = record { tables = programF 6 2; windows = window 0 10; part = []; supplier = pos 8 }
 
@@ -54,7 +53,7 @@ F-stranger = supplier-exact stranger .refused 13 (omega arith) (omega arith) .0 
 abbrev sensing : List ℕ → Tables
 sensing periods = tables (pos sensor ∷ pos 5 ∷ []) [] [] [] [] (numbers periods) [] [] [] [] (pos 0)
 
--- accepted, the fresh state has it
+-- where that program is accepted, the fresh state has its sensor's first value
 sensing-accepted : freshAnswer (sensing (10 ∷ [])) .number ≡ 0
 unfolding computed
 sensing-accepted = refl
@@ -66,7 +65,7 @@ pub sensing-five : valueOf (freshAnswer (sensing (10 ∷ [])) .state .ports) 0 �
 unfolding computed
 sensing-five = refl
 
--- refused, since it has no mode, the state is all 0
+-- where that program is refused, since it has no mode, the fresh state is all 0
 modeless-refused : freshAnswer (sensing []) .number ≡ 1
 unfolding computed
 modeless-refused = refl

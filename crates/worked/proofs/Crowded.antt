@@ -1,5 +1,5 @@
 -- The whole listing of a program in which order shows, written from document 01 by hand: rows in table order, sensors in port order,
--- entries behind the switches, stubs behind the `return`. Assumes nothing.
+-- entries behind the switches, stubs behind the `return`.
 use mathlib.Core.Path.{_≡_, refl}
 use mathlib.Core.List.{[], _∷_}
 use Rattle.rules.specs.Verdict.{programVerdict}

@@ -1,5 +1,4 @@
 -- Each theorem with premises has a program that meets them: F, and the monitor with its two suppliers.
--- Assumes nothing.
 use Prim.Native.Nat.{ℕ, zero, suc, _+_, _*_, _≤_}
 use mathlib.Core.Path.{_≡_, refl, sym, _∙_}
 use mathlib.Core.List.{[], _∷_}
@@ -26,7 +25,7 @@ use Rattle.demands.specs.Supplied.{supplied, worstTimes}
 use Rattle.demands.specs.Composed as composed
 use Rattle.demands.proofs.Verdict.{accepted-exactly}
 use Rattle.demands.proofs.Supplier.{supplier-exact, domination, independent}
-use Rattle.demands.proofs.Supplied.{worst-case-fair}
+use Rattle.demands.proofs.Supplied.{worst-case-suited}
 use Rattle.worked.specs.Computed.{computed}
 use Rattle.worked.specs.Programs.{programF}
 use Rattle.worked.specs.Systems.{F-system, F-asked, monitor, monitorWindows, monitor-system, mix, readings}
@@ -135,5 +134,5 @@ F-windows : windowsVerdict (record { tables = F-system .tables; windows = F-syst
 unfolding computed
 F-windows = refl
 
-pub F-fair : (n : ℕ) → composed.Fair F-system mix (supplied F-system mix readings (λ k. worstTimes (programOf (F-system .tables)))) n
-F-fair n = worst-case-fair F-system F-windows mix readings (λ k. refl) n
+pub F-suited : (n : ℕ) → composed.SuitedAt F-system mix (supplied F-system mix readings (λ k. worstTimes (programOf (F-system .tables)))) n
+F-suited n = worst-case-suited F-system F-windows mix readings (λ k. refl) n

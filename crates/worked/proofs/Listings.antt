@@ -1,5 +1,5 @@
 -- F meets the premises of what is said of a listing's text and of its delays: its listing reads back, and its table of delays says
--- which addresses hold a `future`. Assumes nothing.
+-- which addresses hold a `future`.
 use Prim.Native.Nat.{ℕ, _≤_}
 use mathlib.Core.Path.{_≡_, refl, ap}
 use mathlib.Core.Bool.{Bool, true, false, _&&_}
@@ -24,7 +24,7 @@ use Rattle.text.proofs.Inverted.{read-listing}
 use Rattle.worked.specs.Computed.{computed}
 use Rattle.worked.specs.Programs.{programF}
 
--- an instruction that is known, and numbers of 32 bits, by a test
+-- whether an instruction is known and its numbers are of 32 bits, by a test
 abbrev isKnown : Op → Bool
 isKnown (call n) = true
 isKnown (schedule t) = true
@@ -69,11 +69,11 @@ F-printed : arePrinted (listingOf (programF 6 2)) ≡ true
 unfolding computed arePrinted
 F-printed = refl
 
--- so what is printed of it reads back
+-- what is printed of F's listing reads back
 pub F-reads-back : readListing (listingText (listingOf (programF 6 2))) ≡ some (listingOf (programF 6 2))
 F-reads-back = read-listing (listingOf (programF 6 2)) (omega (arith, F-few)) (every-printable (listingOf (programF 6 2)) F-printed)
 
--- its table of delays: 5 at the `future` of address 9, and exactly where none stands 0
+-- F's table of delays has 5 at the `future` of address 9, and 0 exactly where no `future` stands
 pub F-delay : wordAt (marked (listingOf (programF 6 2)) 0 (replicate maxCode 0)) 9 ≡ delayNumber (delayAt (listingOf (programF 6 2)) 9)
 F-delay = table-exact (listingOf (programF 6 2)) (omega (arith, F-few)) 9
 

@@ -1,11 +1,13 @@
 -- Document 01's numbers, where a name stands for them elsewhere: the most rows of each table, the refusal numbers, F's tables and code as
--- plain numbers, a program for each refusal of a program and of windows, and the fields at their limits. Assumes nothing.
+-- plain numbers, a program for each refusal of a program and of windows, and the fields at their limits.
 use Prim.Native.Nat.{ℕ}
 use mathlib.Core.Path.{_≡_, refl}
 use mathlib.Core.List.{List, [], _∷_}
 use lib.IntN.{ℤ}
 use Rattle.theory.specs.Verdict.{acceptedNumber}
-use Rattle.cells.specs.Limits.{maxPorts, maxTasks, maxTaskPorts, maxDrivers, maxCopies, maxModes, maxModePorts, maxInvocations, maxUpdates, maxSwitches, maxWindows, maxPart, maxSchedule, maxUnits, maxCode, maxDelay, maxElapsed, maxRemaining, maxLeft}
+use Rattle.cells.specs.Limits.{maxPorts, maxTasks, maxTaskPorts, maxDrivers, maxCopies, maxModes, maxModePorts, maxInvocations}
+use Rattle.cells.specs.Limits.{maxUpdates, maxSwitches, maxWindows, maxPart, maxSchedule, maxUnits, maxCode, maxDelay, maxElapsed}
+use Rattle.cells.specs.Limits.{maxRemaining, maxLeft}
 use Rattle.cells.specs.Refusals.{shapeRefused, fieldsRefused, taskPortsRefused, copiesRefused, modePortsRefused, invocationsRefused}
 use Rattle.cells.specs.Refusals.{updatesRefused, switchesRefused, unitsRefused, wholeRefused, codeRefused, windowsRefused, scheduleRefused}
 use Rattle.cells.specs.Refusals.{outsideRefused, lateRefused, timeRefused, overrunRefused, collisionRefused, faultyRefused}
@@ -45,7 +47,7 @@ F-ports = refl
 F-drivers : programF 6 2 .drivers ≡ numbers (0 ∷ 0 ∷ 0 ∷ 0 ∷ 0 ∷ 0 ∷ 0 ∷ 0 ∷ 0 ∷ 0 ∷ 0 ∷ 0 ∷ [])
 F-drivers = refl
 
--- its code in words: 0 call, 1 schedule, 3 jump, 4 future, 5 return, unused words 0
+-- F's code in words: 0 call, 1 schedule, 3 jump, 4 future, 5 return, unused words 0
 F-words : emit (listingOf (programF 6 2))
     ≡ 3 ∷ 1 ∷ 0
     ∷ 0 ∷ 1000 ∷ 0
@@ -68,7 +70,7 @@ F-words : emit (listingOf (programF 6 2))
 unfolding computed
 F-words = refl
 
--- nothing added: accepted
+-- F with nothing added is accepted
 untouched : programVerdict (extended [] [] [] [] [] 0) ≡ 0
 unfolding computed
 untouched = refl

@@ -1,5 +1,5 @@
 -- The pair: two suppliers at work in one round, one of them cut off by the unit's end, with readings and times that change from tick to
--- tick. It meets the premises of the composed run's theorem at every tick. Assumes nothing.
+-- tick. It meets the premises of the composed run's theorem at every tick.
 use Prim.Native.Nat.{ℕ, zero, suc, _<_}
 use mathlib.Core.Path.{_≡_, refl}
 use mathlib.Core.Bool.{true}
@@ -17,12 +17,12 @@ use Rattle.suppliers.proofs.Accepted.{windows-accepted}
 use Rattle.giotto.proofs.Released.{released-declared}
 use Rattle.machine.specs.Schedules.{nobody, one}
 use Rattle.machine.specs.Advance.{Lent}
-use Rattle.demands.specs.Composed.{Accepted, stateAt, Fair, Right}
+use Rattle.demands.specs.Composed.{Accepted, stateAt, SuitedAt, Right}
 use Rattle.demands.specs.Supplied.{supplied, worstTimes}
 use Rattle.demands.specs.Idle.{Idle, askedOf}
 use Rattle.demands.proofs.Composed.{composed-run, same-values}
 use Rattle.demands.proofs.Idle.{accepted-of}
-use Rattle.demands.proofs.Supplied.{premises-met, worst-case-fair}
+use Rattle.demands.proofs.Supplied.{premises-met, worst-case-suited}
 use Rattle.worked.specs.Computed.{computed}
 use Rattle.worked.specs.Systems.{pair, pair-system, mix, readings, changing, runsAsGiotto, whoEach}
 use Rattle.worked.proofs.Runs.{two-below}
@@ -32,8 +32,8 @@ pair-runs : runsAsGiotto pair-system mix readings changing 16 ≡ true
 unfolding computed
 pair-runs = refl
 
--- who runs in them: in the first, task 0 for one tick and then for two, and task 1, of four ticks, in both units; in the second task 1 has
--- three ticks, and nobody runs in the last
+-- who runs in two rounds of the pair: in the first, task 0 for one tick and then for two, and task 1, of four ticks, in both units; in
+-- the second task 1 has three ticks, and nobody runs in the last
 pair-shares : whoEach pair-system mix readings changing 16
     ≡ one 0 ∷ nobody ∷ one 1 ∷ one 1 ∷ one 0 ∷ one 0 ∷ one 1 ∷ one 1
     ∷ one 0 ∷ nobody ∷ one 1 ∷ one 1 ∷ one 0 ∷ one 0 ∷ one 1 ∷ nobody ∷ []
@@ -58,25 +58,25 @@ in-range n zero l = (omega arith, omega arith)
 in-range n (suc zero) l = (omega arith, omega arith)
 in-range n (suc (suc t)) l = absurd (omega arith)
 
--- so every tick meets the premises
+-- every tick of the pair meets the premises
 abbrev pair-lent : ℕ → Lent
 pair-lent = supplied pair-system mix readings changing
 
-pub pair-fair : (n : ℕ) → Fair pair-system mix pair-lent n
-pair-fair n =
+pub pair-suited : (n : ℕ) → SuitedAt pair-system mix pair-lent n
+pair-suited n =
     let a = windows-accepted _ (pair-accepted .windows) in
     premises-met pair-system mix readings changing (pair-accepted .windows) (λ k. refl) (λ k. refl)
     (λ k t m. in-range k t (released-declared pair (accepted-fields pair a) mix readings k t m)) n
 
--- and is accepted, with Giotto's values in all ports
+-- every tick of the pair is accepted, with Giotto's values in all ports
 pub pair-right : (n : ℕ) → Right pair-system mix pair-lent n
-pair-right n = composed-run pair-system pair-accepted .1 mix pair-lent n (λ k l. pair-fair k)
+pair-right n = composed-run pair-system pair-accepted .1 mix pair-lent n (λ k l. pair-suited k)
 
--- the ports are those of the run with worst-case times
+-- the pair's ports are those of its run with worst-case times
 abbrev pair-lent-worst : ℕ → Lent
 pair-lent-worst = supplied pair-system mix readings (λ k. worstTimes (programOf pair))
 
 pub pair-same-values : (n : ℕ) → stateAt pair-system pair-lent (suc n) .ports ≡ stateAt pair-system pair-lent-worst (suc n) .ports
 pair-same-values n =
-    same-values pair-system pair-system pair-accepted pair-accepted refl mix pair-lent pair-lent-worst (λ k. refl) n (λ k l. pair-fair k)
-    (λ k l. worst-case-fair pair-system (pair-accepted .windows) mix readings (λ j. refl) k)
+    same-values pair-system pair-system pair-accepted pair-accepted refl mix pair-lent pair-lent-worst (λ k. refl) n (λ k l. pair-suited k)
+    (λ k l. worst-case-suited pair-system (pair-accepted .windows) mix readings (λ j. refl) k)

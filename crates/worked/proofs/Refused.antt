@@ -1,5 +1,5 @@
 -- One advance for each number that arises in execution, 16 to 20, and where two of them would apply at one instruction; one that is refused
--- before anything runs. Assumes nothing.
+-- before anything runs.
 use Prim.Native.Nat.{ℕ}
 use mathlib.Core.Path.{_≡_, refl}
 use mathlib.Core.List.{List, [], _∷_}

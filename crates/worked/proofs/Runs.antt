@@ -1,5 +1,4 @@
 -- Two systems meet the premises of the demands, and their composed runs, computed, are Giotto's tick by tick.
--- Assumes nothing.
 use Prim.Native.Nat.{ℕ, zero, suc, _<_}
 use mathlib.Core.Path.{_≡_, refl}
 use mathlib.Core.Bool.{true}
@@ -31,7 +30,7 @@ monitor-runs : runsAsGiotto monitor-system mix gaps (times (1 ∷ 2 ∷ [])) 16 
 unfolding computed
 monitor-runs = refl
 
--- it is in mode 1 after tick 4, and in mode 0 again after tick 8
+-- the monitor is in mode 1 after tick 4, and in mode 0 again after tick 8
 monitor-switches : execution (programOf (monitor-system .tables)) mix gaps 5 .mode ≡ 1
 unfolding computed
 monitor-switches = refl
@@ -40,7 +39,7 @@ monitor-returns : execution (programOf (monitor-system .tables)) mix gaps 9 .mod
 unfolding computed
 monitor-returns = refl
 
--- two tasks of suppliers below s: none is of s
+-- of two tasks of suppliers below s none is of s
 pub two-below : (T : Tables) (s : ℕ) → taskCount T ≡ 2 → taskSupplier T 0 < s → taskSupplier T 1 < s
     → (t : ℕ) → t < taskCount T → taskSupplier T t ≡ s → ⊥
 two-below T s n a b zero l e = omega (arith, a, e)
@@ -62,7 +61,7 @@ monitor-suppliers (suc zero) l = inr refl
 monitor-suppliers (suc (suc s)) l =
     inl (record { no-rows = refl; no-tasks = two-below (monitor-system .tables) (suc (suc s)) refl (omega arith) (omega arith) })
 
--- so both systems are accepted
+-- F and the monitor are accepted
 pub F-accepted : Accepted F-system
 unfolding computed
 F-accepted = accepted-of F-system refl refl F-suppliers

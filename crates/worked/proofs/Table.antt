@@ -1,10 +1,10 @@
--- Document 01's worked table: every row marked (P), as a theorem about the definitions. Assumes nothing.
+-- Document 01's worked table: every row marked (P), as a theorem about the definitions.
 use mathlib.Core.Path.{_≡_, refl}
 use mathlib.Core.Bool.{false}
 use mathlib.Core.List.{[], _∷_}
 use lib.IntN.{pos, negsuc}
 use lib.ListN.{length}
-use Rattle.cells.specs.Reading.{noReading, inside}
+use Rattle.readings.specs.Reading.{noReading, inside}
 use Rattle.program.specs.Units.{units}
 use Rattle.rules.specs.Verdict.{programVerdict}
 use Rattle.code.specs.Op.{call, schedule, jump, future, return}

@@ -1,5 +1,5 @@
 -- What F's first advances use of what they are lent: in the first the sensor's reading and the times of the two tasks, in the second no
--- reading and no time, but the results of the task that completes in it; and one that is refused, nothing. Assumes nothing.
+-- reading and no time, but the results of the task that completes in it; and one that is refused, nothing.
 use Prim.Native.Nat.{ℕ, zero, suc, _≤_, _<_}
 use mathlib.Core.Path.{_≡_, refl, sym, ap, subst, _∙_}
 use mathlib.Core.Bool.{true}
@@ -78,7 +78,7 @@ first-releases = record {
   not-faulty = λ l. omega (arith, l);
 }
 
--- in the second task 0 completes
+-- in the second advance task 0 completes
 within : 1 ≤ second .state .remaining
 unfolding computed
 within = omega arith
@@ -128,7 +128,7 @@ module _ (rs ts : List ℤ) (r : length rs ≡ 63) (t : length ts ≡ 30) where
   pub F-first-times : advanceAnswer first ≡ advanceAnswer (otherwise first (first .lent .readings) otherTimes)
   F-first-times = tasks-only first otherTimes times-long same-times
 
-  -- both at once
+  -- the first advance answers the same whatever the other readings and the other times together
   pub F-first-uses : advanceAnswer first ≡ advanceAnswer (otherwise first otherReadings otherTimes)
   F-first-uses =
       used-only first _ (record {
@@ -138,12 +138,12 @@ module _ (rs ts : List ℤ) (r : length rs ≡ 63) (t : length ts ≡ 30) where
         results = λ k p u m. refl;
       })
 
--- the second answers the same whatever all readings and times
+-- the second advance answers the same whatever all readings and times
 pub F-second-uses : (rs ts : List ℤ) → length rs ≡ maxPorts → length ts ≡ maxTasks
     → advanceAnswer second ≡ advanceAnswer (otherwise second rs ts)
 F-second-uses rs ts r t = same-within second within rs ts (sym r) (sym t)
 
--- one that is refused with 21, since a task has too long left, uses nothing
+-- an advance that is refused with 21, since a task has too long left, uses nothing
 abbrev far : Advance
 far = advance 0 (withLeft (freshAnswer (programF 6 2) .state) (5000 ∷ replicate 31 0))
 

@@ -1,5 +1,5 @@
 -- F's schedule code meets the premises of the laws that a supplier's verdict walks by: its blocks are found, its delays told, its
--- runs as they were counted. Assumes nothing.
+-- runs as they were counted.
 use mathlib.Core.Path.{_≡_, refl}
 use mathlib.Core.Bool.{false}
 use mathlib.Core.List.{List}
@@ -25,11 +25,11 @@ use Rattle.worked.specs.Systems.{F-asked}
 use Rattle.worked.proofs.Table.{F-length}
 use Rattle.worked.proofs.Instances.{F-verdict, F-part}
 
--- both blocks, at addresses 9 and 15
+-- the rows of F's part: both blocks, at addresses 9 and 15
 abbrev rows : List ℤ
 rows = schedule 1 0
 
--- the part passes 13, so it is sorted
+-- F's part passes 13, so it is sorted
 part-fits : partBad (programF 6 2) rows 0 ≡ false
 unfolding computed
 part-fits = refl
@@ -45,7 +45,7 @@ first-end = refl
 behind : Behind rows 0 15 (found rows 0 0 9 .end)
 behind = behind-later rows 0 10 15 (found rows 0 0 9 .end) (omega arith) (found-behind rows 0 9 0 (behind-none rows 0 9))
 
--- so the second is found from there on
+-- the second block is found from the end of the first on
 pub second-block : rowsOf (spanOf rows (found rows (found rows 0 0 9 .end) 0 15)) ≡ blockOf rows 0 15
 second-block =
     let n : scheduleCount rows ≡ 4 = refl in

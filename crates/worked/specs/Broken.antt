@@ -1,4 +1,4 @@
--- F with one thing wrong: a program for each of the numbers 2 to 7, tables and windows at a limit and one beyond. Assumes nothing.
+-- F with one thing wrong: a program for each of the numbers 2 to 7, tables and windows at a limit and one beyond.
 use Prim.Native.Nat.{ℕ}
 use mathlib.Core.List.{List, [], _∷_, _++_}
 use lib.IntN.{ℤ, pos}

@@ -1,8 +1,8 @@
 -- What the definitions compute with: a theorem with the line `unfolding computed` under its signature opens them all, so that
--- `refl` runs a definition on a case. Assumes nothing.
+-- `refl` runs a definition on a case.
 use Rattle.theory.specs.Search.{any, firstFrom, first}
 use Rattle.cells.specs.Cell.{nameOf, numAt, nameAt, wordAt}
-use Rattle.cells.specs.Reading.{inside, isMissing, isValue}
+use Rattle.readings.specs.Reading.{inside, isMissing, isValue}
 use Rattle.program.specs.Sets.{isKind, isTaskPort, modePortAt, isInput, isOutput, isModePort, copiesFrom, copiesTo, isSource, isDestination}
 use Rattle.program.specs.Units.{misses, rowMisses, isMultiple, units}
 use Rattle.rules.specs.Declared.{samePort, taskPortClash, taskPortsBad, copyClash, copiesBad, modePortClash, modePortsBad}

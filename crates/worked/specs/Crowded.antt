@@ -1,15 +1,15 @@
 -- A program in which order shows: two sensors, two tasks and two updates due at once, two switches of one mode, a start mode that is not
--- the first, task and driver numbers that differ. Assumes nothing.
+-- the first, task and driver numbers that differ.
 use mathlib.Core.List.{[], _∷_, _++_}
 use lib.IntN.{pos}
-use Rattle.cells.specs.Reading.{noReading}
+use Rattle.readings.specs.Reading.{noReading}
 use Rattle.program.specs.Tables.{Tables, tables}
 use Rattle.worked.specs.Programs.{numbers, alwaysRow, intervalRow}
 
 -- Ports: 0 and 2 sensors, 1 and 3 actuators, 4 and 5 inputs, 6 and 7 outputs of tasks 0 and 1.
 -- Drivers: 0 and 2 for updates, 1 and 3 for tasks 1 and 0, 4, 5 and 6 for switches.
 -- Mode 0, period 12, four units: task 1 twice, task 0 four times; updates 2 four times, 0 twice; to mode 1 twice, to itself once.
--- Mode 1, period 6, two units: task 0 once, task 1 twice; update 0 twice; back to mode 0 once. It starts in mode 1.
+-- Mode 1, period 6, two units: task 0 once, task 1 twice; update 0 twice; back to mode 0 once. The program starts in mode 1.
 abbrev pub crowded : Tables
 crowded =
     tables

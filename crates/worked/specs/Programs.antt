@@ -1,4 +1,4 @@
--- The programs of document 01's worked table. All first values are 0, the start mode is 0. Assumes nothing.
+-- The programs of document 01's worked table. All first values are 0, the start mode is 0.
 use Prim.Native.Nat.{ℕ, zero, suc}
 use mathlib.Core.List.{List, [], _∷_, _++_, map}
 use lib.IntN.{ℤ, pos}
@@ -9,12 +9,12 @@ use Rattle.suppliers.specs.Supplier.{Asked}
 abbrev pub numbers : List ℕ → List ℤ
 numbers ns = map pos ns
 
--- n ports of a kind
+-- n ports of a kind, each with first value 0
 abbrev pub ports : ℕ → ℕ → List ℤ
 ports zero kind = []
 ports (suc n) kind = pos kind ∷ pos 0 ∷ ports n kind
 
--- a driver that copies always, or in an interval of a port
+-- the row of a driver that copies always, and that of one that copies where a port is in an interval
 abbrev pub alwaysRow : List ℤ
 alwaysRow = pos kindAlways ∷ pos 0 ∷ pos 0 ∷ pos 0 ∷ []
 
@@ -38,11 +38,11 @@ programF worst1 worst2 =
     []
     (pos 0)
 
--- a mode without rows, and no sensor
+-- a program of one mode without rows, and without a sensor
 abbrev pub bare : Tables
 bare = tables [] [] [] [] [] (numbers (10 ∷ [])) [] [] [] [] (pos 0)
 
--- updates of these frequencies, by a driver that moves nothing, in a mode of this period
+-- a program of updates of these frequencies, by a driver that moves nothing, in a mode of this period
 abbrev pub updateRows : List ℕ → List ℤ
 updateRows [] = []
 updateRows (f ∷ fs) = pos 0 ∷ pos f ∷ pos 0 ∷ updateRows fs
@@ -51,12 +51,12 @@ abbrev pub updated : ℕ → List ℕ → Tables
 updated period frequencies =
     tables [] [] [] alwaysRow [] (numbers (period ∷ [])) [] [] (updateRows frequencies) [] (pos 0)
 
--- two sensors, and a mode that switches to itself by drivers with these two rows
+-- a program of two sensors, and a mode that switches to itself by drivers with these two rows
 abbrev pub guarded : List ℤ → List ℤ → Tables
 guarded one other =
     tables (ports 2 sensor) [] [] (one ++ other) [] (numbers (10 ∷ [])) [] [] [] (numbers (0 ∷ 1 ∷ 0 ∷ 0 ∷ 0 ∷ 1 ∷ 0 ∷ 1 ∷ [])) (pos 0)
 
--- period 12, a task and a switch of these frequencies
+-- a program of one mode of period 12, with a task and a switch of these frequencies
 abbrev pub switching : ℕ → ℕ → Tables
 switching perTask perSwitch =
     tables [] (numbers (0 ∷ 1 ∷ [])) [] alwaysRow [] (numbers (12 ∷ [])) []

@@ -1,5 +1,5 @@
 -- Three systems that run: F; a monitor of two modes whose switches are taken; a pair of suppliers that share one round. What a run shows,
--- tick by tick. Assumes nothing.
+-- tick by tick.
 use Prim.Native.Nat.{ℕ, zero, suc, _+_, _*_, _-_, _/_, _%_}
 use mathlib.Core.Bool.{Bool, true, false}
 use mathlib.Core.List.{List, [], _∷_, _++_, map}
@@ -8,7 +8,7 @@ use lib.IntN.{ℤ, pos, natAbs}
 use lib.ListN.{replicate}
 use Rattle.cells.specs.Cell.{eqZ}
 use Rattle.cells.specs.Limits.{wordsEach}
-use Rattle.cells.specs.Reading.{noReading}
+use Rattle.readings.specs.Reading.{noReading}
 use Rattle.program.specs.Tables.{Tables, tables, sensor, actuator, input, output}
 use Rattle.program.specs.Program.{programOf}
 use Rattle.suppliers.specs.Supplier.{Asked}
@@ -23,13 +23,13 @@ use Rattle.demands.specs.Composed.{System, joined, code, advanced}
 use Rattle.demands.specs.Supplied.{lentTo}
 use Rattle.worked.specs.Programs.{numbers, ports, alwaysRow, intervalRow, programF, schedule, window, asked}
 
--- F, its code by supplier 0
+-- the parts of a system of two suppliers: these for suppliers 0 and 1, no rows for the others
 abbrev pub partsOf : List ℤ → List ℤ → ℕ → List ℤ
 partsOf one other zero = one
 partsOf one other (suc zero) = other
 partsOf one other (suc (suc s)) = []
 
--- room for 64 instructions
+-- a slice that has room for 64 instructions
 abbrev pub room : List ℕ
 room = replicate (wordsEach * 64) 0
 
@@ -58,7 +58,7 @@ monitor worst1 =
     (numbers (0 ∷ 1 ∷ 1 ∷ 3 ∷ 1 ∷ 1 ∷ 0 ∷ 4 ∷ []))
     (pos 0)
 
--- its blocks are at 7 and 15 in mode 0 and at 23 in mode 1; supplier 1's window goes to this tick
+-- The monitor's blocks are at 7 and 15 in mode 0 and at 23 in mode 1; supplier 1's window goes to this tick.
 abbrev pub monitorWindows : ℕ → List ℤ
 monitorWindows to1 = numbers (0 ∷ 0 ∷ 0 ∷ 4 ∷ 1 ∷ 1 ∷ 0 ∷ to1 ∷ [])
 
@@ -110,7 +110,7 @@ mix t values p = pos (100 * t + 10 * p + weigh values)
 abbrev pub readings : ℕ → List ℤ
 readings n = pos n ∷ replicate 63 (pos 0)
 
--- the same, but missing at ticks 4 and 6
+-- readings that change from tick to tick, and are missing at ticks 4 and 6
 abbrev pub gaps : ℕ → List ℤ
 gaps n = elim (eqb n 4) [
   | true ↦ noReading ∷ replicate 63 (pos 0)
@@ -121,7 +121,7 @@ gaps n = elim (eqb n 4) [
 abbrev pub times : List ℕ → ℕ → List ℤ
 times ts n = map pos ts ++ replicate 30 (pos 0)
 
--- other ones from tick to tick, for the pair: the releases of task 0 get 1, 2, 1, 2, .., those of task 1 get 4, 3, 2, 1, 4, ..
+-- execution times that change from tick to tick: of the pair's releases, task 0 gets 1, 2, 1, 2, .., and task 1 gets 4, 3, 2, 1, 4, ..
 abbrev pub changing : ℕ → List ℤ
 changing n = pos (1 + (n + n / 4) % 2) ∷ pos (4 - (n + n / 8) % 4) ∷ replicate 30 (pos 0)
 
@@ -132,7 +132,7 @@ same [] (y ∷ ys) = false
 same (x ∷ xs) [] = false
 same (x ∷ xs) (y ∷ ys) = elim (eqZ x y) [ true ↦ same xs ys | false ↦ false ]
 
--- k ticks from tick n on, the machine in state s and Giotto in configuration C: no advance is refused, and after each the
+-- in k ticks from tick n on, the machine in state s and Giotto in configuration C, no advance is refused, and after each the
 -- ports are Giotto's
 abbrev pub agrees : System → Function → (ℕ → List ℤ) → (ℕ → List ℤ) → ℕ → ℕ → State → Configuration → Bool
 agrees Y F rs ts zero n s C = true
@@ -144,7 +144,7 @@ agrees Y F rs ts (suc k) n s C =
       | suc v ↦ false
     ]
 
--- from a fresh state
+-- in k ticks from a fresh state no advance is refused, and after each the ports are Giotto's
 abbrev pub runsAsGiotto : System → Function → (ℕ → List ℤ) → (ℕ → List ℤ) → ℕ → Bool
 runsAsGiotto Y F rs ts k = agrees Y F rs ts k 0 (freshAnswer (Y .tables) .state) (initial (programOf (Y .tables)) F)
 
@@ -153,14 +153,14 @@ abbrev pub runningIn : System → Outcome → Who
 runningIn Y (ok u) = running (joined Y) u
 runningIn Y (stop n) = nobody
 
--- in each of k ticks from tick n on, the machine in state s
+-- who runs in each of k ticks from tick n on, the machine in state s
 abbrev pub whoFrom : System → Function → (ℕ → List ℤ) → (ℕ → List ℤ) → ℕ → ℕ → State → List Who
 whoFrom Y F rs ts zero n s = []
 whoFrom Y F rs ts (suc k) n s =
     runningIn Y (ready (programOf (Y .tables)) (instructions (code Y)) (rs n) (ts n) s)
     ∷ whoFrom Y F rs ts k (suc n) (advanced Y (lentTo Y F rs ts n s) s .state)
 
--- from a fresh state
+-- who runs in each of k ticks from a fresh state
 abbrev pub whoEach : System → Function → (ℕ → List ℤ) → (ℕ → List ℤ) → ℕ → List Who
 whoEach Y F rs ts k = whoFrom Y F rs ts k 0 (freshAnswer (Y .tables) .state)
 

@@ -1,5 +1,4 @@
 -- A loop that writes instructions for the rows of a table that pass a test: one row, and what is left to write.
--- Assumes nothing.
 use Prim.Native.Nat.{ℕ, _+_, _-_, _≤_, _<_}
 use mathlib.Core.Path.{_≡_, refl, sym, ap, ap₂, _∙_}
 use mathlib.Core.Bool.{Bool, true, false}
@@ -18,12 +17,12 @@ pub record Left (rest : ℕ → ℕ → List Words) (i : ℕ) (start here : Writ
   pub ahead : start .at ≤ here .at
 
 module _ {rest : ℕ → ℕ → List Words} {start : Written} where
-  -- the loop begins
+  -- before the first row all is left to write
   pub left-all : Left rest 0 start start
   left-all = record { same = refl; ahead = omega arith }
 
   module _ {i : ℕ} {here : Written} (h : Left rest i start here) where
-    -- the slice is as long as it was
+    -- the slice keeps its length as the loop goes on
     pub left-length : length (here .code) ≡ length (start .code)
     left-length =
         sym (writes-length (rest i (here .at)) here)
@@ -34,7 +33,7 @@ module _ {rest : ℕ → ℕ → List Words} {start : Written} where
     pub left-at : here .at + length (rest i (here .at)) ≡ start .at + length (rest 0 (start .at))
     left-at = sym (writes-at (rest i (here .at)) here) ∙ ap (λ (w : Written). w .at) (h .same) ∙ writes-at (rest 0 (start .at)) start
 
-    -- one row more: its part of the rest is written
+    -- the loop takes one row more: its part of the rest is written
     pub left-more : (part : List Words) {there : Written} → there ≡ writes part here
         → rest i (here .at) ≡ part ++ rest (i + 1) (here .at + length part) → Left rest (i + 1) start there
     left-more part {there} e f =
@@ -53,17 +52,19 @@ module _ {rest : ℕ → ℕ → List Words} {start : Written} where
     left-none e f = ap (λ (os : List Words). writes os here) (sym e) ∙ h .same ∙ ap (λ (os : List Words). writes os start) f
 
 module _ {A : Type 0} (p : ℕ → Bool) (row : ℕ → A) where
-  -- of one row, what stands in it if it passes, else nothing
+  -- of one row that passes there is what stands in it
   pub one-yes : (i : ℕ) → p i ≡ true → those p row 1 i ≡ row i ∷ []
   one-yes i e = rw (e, those)
 
+  -- of one row that does not pass there is nothing
   pub one-no : (i : ℕ) → p i ≡ false → those p row 1 i ≡ []
   one-no i e = rw (e, those)
 
-  -- what is left of n rows, as a loop over them goes on: all, this row and the rest
+  -- before the first of n rows all of them are left
   pub those-all : (n : ℕ) → those p row (n - 0) 0 ≡ those p row n 0
   those-all n = let z : n - 0 ≡ n = omega arith in ap (λ (k : ℕ). those p row k 0) z
 
+  -- what is left of n rows from row i on is row i and what is left behind it
   pub those-next : (n i : ℕ) → i < n → those p row (n - i) i ≡ those p row 1 i ++ those p row (n - (i + 1)) (i + 1)
   those-next n i l = go (p i) refl
     where

@@ -1,6 +1,6 @@
 -- What the code that writes a block comes to.
 pub mod Written
-pub mod Named
 pub mod Left
+pub mod Forms
 pub mod Tests
 pub mod Parts

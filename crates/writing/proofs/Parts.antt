@@ -18,10 +18,11 @@ use Rattle.layout.specs.Counts.{beforeTests, sizeOf}
 use Rattle.layout.specs.Few.{Sized}
 use Rattle.layout.proofs.Limits.{counts-sized, few-rows, few-sensors}
 use Rattle.writing.specs.Written.{three}
-use Rattle.writing.specs.Rows.{isDue, dueAt, rowWords, formRows, reading}
+use Rattle.writing.specs.Rows.{isDue, dueAt, formWidth, rowWords, formRows, reading}
 use Rattle.writing.specs.Switches.{switchIn, switchesIn, stubsIn}
-use Rattle.writing.specs.Block.{outputForm, updateForm, driverForm, scheduleForm, headIn, bodyIn, partsIn, countsAt}
+use Rattle.writing.specs.Block.{headIn, bodyIn, partsIn, countsAt}
 use Rattle.writing.specs.declared.rows.Form.{Form}
+use Rattle.writing.specs.declared.rows.Form.the-variants.{OutputCopy, Update, TaskDriver, Schedule}
 use Rattle.writing.specs.declared.rows.Instant.{Instant}
 use Rattle.writing.specs.declared.blocks.Aim.{Aim}
 use Rattle.writing.proofs.Tests.{stubs-count}
@@ -31,44 +32,44 @@ due-count : {A : Type 0} (width : ℕ) (t : List ℤ) (when : Instant) (row : �
     → length (dueAt width t when row) ≡ length (dueAt width t when (λ i. i))
 due-count width t when row = those-count (isDue width t when) row (rowsIn width t) 0
 
--- they are no more than the rows
-pub form-most : (form : Form) (t : List ℤ) (when : Instant) → length (formRows form t when) ≤ rowsIn (form .width) t
-form-most form t when = those-few (isDue (form .width) t when) (rowWords form t) (rowsIn (form .width) t) 0
+-- no more instructions are written for the due rows than there are rows
+pub form-most : (form : Form) (t : List ℤ) (when : Instant) → length (formRows form t when) ≤ rowsIn (formWidth form) t
+form-most form t when = those-few (isDue (formWidth form) t when) (rowWords form t) (rowsIn (formWidth form) t) 0
 
--- nor how many the sensors are
+-- what is written for the sensors does not change how many they are
 sensors-count : {A : Type 0} (ports : List ℤ) (row : ℕ → A) → length (sensorRows ports row) ≡ length (sensorRows ports (λ p. p))
 sensors-count ports row = those-count (isSensor ports) row (rowsIn portWidth ports) 0
 
 module _ (T : Tables) (when : Instant) where
-  -- before the tests: an output copy for each due task, the due updates, the sensors
+  -- before the tests stand an output copy for each due task, the due updates, the sensors
   pub head-count : length (headIn (T .ports) (T .invocations) (T .updates) when) ≡ beforeTests (countsAt T when)
   head-count =
       simp length-append
       (omega (
         arith,
-        due-count invocationWidth (T .invocations) when (rowWords outputForm (T .invocations)),
-        due-count updateWidth (T .updates) when (rowWords updateForm (T .updates)),
+        due-count invocationWidth (T .invocations) when (rowWords OutputCopy (T .invocations)),
+        due-count updateWidth (T .updates) when (rowWords Update (T .updates)),
         sensors-count (T .ports) reading,
       ))
 
-  -- a test for each due switch
+  -- there is a test for each due switch
   pub tests-count : (stub : ℕ) → length (map three (testsOf (switchesIn (T .switches) when) stub)) ≡ countsAt T when .switches
   tests-count stub =
       length-map (testsOf (switchesIn (T .switches) when) stub) three
       ∙ tests-length (switchesIn (T .switches) when) stub
       ∙ due-count switchWidth (T .switches) when (switchIn (T .switches))
 
-  -- two instructions for each due task
+  -- from the entry to the `future` stand two instructions for each due task
   pub body-count : length (bodyIn (T .invocations) when) ≡ 2 * countsAt T when .invocations
   body-count =
       simp length-append
       (omega (
         arith,
-        due-count invocationWidth (T .invocations) when (rowWords driverForm (T .invocations)),
-        due-count invocationWidth (T .invocations) when (rowWords scheduleForm (T .invocations)),
+        due-count invocationWidth (T .invocations) when (rowWords TaskDriver (T .invocations)),
+        due-count invocationWidth (T .invocations) when (rowWords Schedule (T .invocations)),
       ))
 
-  -- two for each due switch
+  -- the stubs are two instructions for each due switch
   stubs-twice : (entries : List ℕ) → length (map three (stubsIn entries (switchesIn (T .switches) when))) ≡ 2 * countsAt T when .switches
   stubs-twice entries =
       omega (
@@ -84,6 +85,6 @@ module _ (T : Tables) (when : Instant) where
       simp length-append
       (omega (arith, simp length-append at head-count, tests-count (aim .stub), simp length-append at body-count, stubs-twice entries))
 
-  -- its counts are within the limits
+  -- the counts of a unit are within the limits
   pub sized : shapeBad T ≡ false → Sized (countsAt T when)
   sized e = counts-sized _ _ _ _ (when .mode .0) (when .units) (few-rows T e) (few-sensors T e) (when .unit)

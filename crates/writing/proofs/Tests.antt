@@ -1,5 +1,4 @@
 -- What is left to write of the tests and of the stubs of due switches, as a loop over their rows goes on.
--- Assumes nothing.
 use Prim.Native.Nat.{ℕ, suc, _+_, _-_, _*_, _≤_, _<_}
 use mathlib.Core.Path.{_≡_, refl, ap, _∙_}
 use mathlib.Core.Bool.{Bool}
@@ -16,20 +15,20 @@ use Rattle.writing.specs.Written.{Words, three}
 use Rattle.writing.specs.Switches.{stubsIn}
 use Rattle.writing.proofs.Left.{those-all, those-next}
 
--- first these tests, then those, whose stubs stand behind theirs
+-- the tests of two lists of switches are those of the first and then those of the second, whose stubs stand behind
 tests-append : (a b : List Switch) (s : ℕ) → testsOf (a ++ b) s ≡ testsOf a s ++ testsOf b (s + 2 * length a)
 tests-append [] b s = ap (testsOf b) (omega arith)
 tests-append (w ∷ a) b s =
     let z : 2 + s + 2 * length a ≡ s + 2 * suc (length a) = omega arith in
     ap (λ (os : List Op). branch (w .driver) s ∷ os) (tests-append a b (2 + s) ∙ ap (λ (n : ℕ). testsOf a (2 + s) ++ testsOf b n) z)
 
--- first these stubs, then those
+-- the stubs of two lists of switches are those of the first and then those of the second
 stubs-append : (entries : List ℕ) (a b : List Switch) → stubsIn entries (a ++ b) ≡ stubsIn entries a ++ stubsIn entries b
 stubs-append entries [] b = refl
 stubs-append entries (w ∷ a) b =
     ap (λ (os : List Op). callDriver (w .driver) ∷ jump (getD entries (w .target) 0) ∷ os) (stubs-append entries a b)
 
--- two instructions for each switch
+-- the stubs are two instructions for each switch
 pub stubs-count : (entries : List ℕ) (ws : List Switch) → length (stubsIn entries ws) ≡ 2 * length ws
 stubs-count entries [] = refl
 stubs-count entries (w ∷ ws) = omega (arith, stubs-count entries ws)
@@ -40,14 +39,14 @@ module _ (p : ℕ → Bool) (row : ℕ → Switch) (n : ℕ) where
   testsLeft stub from i a = map three (testsOf (those p row (n - i) i) (stub + 2 * (a - from)))
 
   module _ (stub from : ℕ) where
-    -- all of them
+    -- before the first row all tests are left
     pub tests-all : testsLeft stub from 0 from ≡ map three (testsOf (those p row n 0) stub)
     tests-all =
         let z : stub + 2 * (from - from) ≡ stub = omega arith in
         ap (λ (ws : List Switch). map three (testsOf ws (stub + 2 * (from - from)))) (those-all p row n)
         ∙ ap (λ (s : ℕ). map three (testsOf (those p row n 0) s)) z
 
-    -- no more than there are rows
+    -- no more tests are left than there are rows
     pub tests-few : (i a : ℕ) → length (testsLeft stub from i a) ≤ n
     tests-few i a =
         omega (
@@ -57,7 +56,7 @@ module _ (p : ℕ → Bool) (row : ℕ → Switch) (n : ℕ) where
           those-few p row (n - i) i,
         )
 
-    -- that of this row and the rest
+    -- the tests that are left are that of this row and the rest
     pub tests-next : (i a : ℕ) → i < n → from ≤ a
         → testsLeft stub from i a
         ≡ map three (testsOf (those p row 1 i) (stub + 2 * (a - from)))
@@ -73,7 +72,7 @@ module _ (p : ℕ → Bool) (row : ℕ → Switch) (n : ℕ) where
         ∙ map-append three (testsOf here s) (testsOf rest (s + 2 * length here))
         ∙ ap (λ (k : ℕ). map three (testsOf here s) ++ map three (testsOf rest k)) z
 
-    -- nothing
+    -- behind the last row no test is left
     pub tests-end : (i a : ℕ) → n ≤ i → testsLeft stub from i a ≡ []
     tests-end i a l = ap (λ (ws : List Switch). map three (testsOf ws (stub + 2 * (a - from)))) (those-end p row n i l)
 
@@ -82,11 +81,11 @@ module _ (p : ℕ → Bool) (row : ℕ → Switch) (n : ℕ) where
   stubsLeft entries i = map three (stubsIn entries (those p row (n - i) i))
 
   module _ (entries : List ℕ) where
-    -- all of them
+    -- before the first row all stubs are left
     pub stubs-all : stubsLeft entries 0 ≡ map three (stubsIn entries (those p row n 0))
     stubs-all = ap (λ (ws : List Switch). map three (stubsIn entries ws)) (those-all p row n)
 
-    -- no more than twice the rows that are left
+    -- no more stub instructions are left than twice the rows that are left
     pub stubs-few : (i : ℕ) → length (stubsLeft entries i) ≤ 2 * (n - i)
     stubs-few i =
         omega (
@@ -96,7 +95,7 @@ module _ (p : ℕ → Bool) (row : ℕ → Switch) (n : ℕ) where
           those-few p row (n - i) i,
         )
 
-    -- that of this row and the rest
+    -- the stubs that are left are that of this row and the rest
     pub stubs-next : (i : ℕ) → i < n → stubsLeft entries i ≡ map three (stubsIn entries (those p row 1 i)) ++ stubsLeft entries (i + 1)
     stubs-next i l =
         let here = those p row 1 i in
@@ -105,6 +104,6 @@ module _ (p : ℕ → Bool) (row : ℕ → Switch) (n : ℕ) where
         ∙ ap (map three) (stubs-append entries here rest)
         ∙ map-append three (stubsIn entries here) (stubsIn entries rest)
 
-    -- nothing
+    -- behind the last row no stub is left
     pub stubs-end : (i : ℕ) → n ≤ i → stubsLeft entries i ≡ []
     stubs-end i l = ap (λ (ws : List Switch). map three (stubsIn entries ws)) (those-end p row n i l)

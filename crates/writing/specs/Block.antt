@@ -1,35 +1,22 @@
--- A block as it is written from the lent tables. Assumes nothing.
+-- A block as it is written from the lent tables.
 use Prim.Native.Nat.{ℕ, _+_, _*_, _≤_}
 use mathlib.Core.List.{List, [], _∷_, _++_, map}
 use lib.IntN.{ℤ}
 use lib.ListN.{length}
 use Rattle.cells.specs.Cell.{greatestWord}
-use Rattle.cells.specs.Limits.{maxSwitches, firstOutputCall}
-use Rattle.program.specs.Tables.{Tables, invocationWidth, invocationTaskColumn, invocationDriverColumn, updateWidth, updateDriverColumn}
+use Rattle.cells.specs.Limits.{maxSwitches}
+use Rattle.program.specs.Tables.{Tables}
 use Rattle.program.specs.Sets.{sensorRows}
-use Rattle.code.specs.Op.{future, return, callNumber, scheduleNumber}
+use Rattle.code.specs.Op.{future, return}
 use Rattle.code.specs.Listing.{testsOf}
 use Rattle.layout.specs.declared.counts.Counts.{Counts}
 use Rattle.layout.specs.Counts.{countsIn}
 use Rattle.writing.specs.Written.{Words, three}
 use Rattle.writing.specs.Rows.{reading, formRows}
 use Rattle.writing.specs.Switches.{switchesIn, stubsIn}
-use Rattle.writing.specs.declared.rows.Form.{Form}
+use Rattle.writing.specs.declared.rows.Form.the-variants.{OutputCopy, Update, TaskDriver, Schedule}
 use Rattle.writing.specs.declared.rows.Instant.{Instant}
 use Rattle.writing.specs.declared.blocks.Aim.{Aim}
-
--- the output copy of a task, a due update, a task driver, a schedule
-abbrev pub outputForm : Form
-outputForm = record { width = invocationWidth; column = invocationTaskColumn; number = callNumber; base = firstOutputCall }
-
-abbrev pub updateForm : Form
-updateForm = record { width = updateWidth; column = updateDriverColumn; number = callNumber; base = 0 }
-
-abbrev pub driverForm : Form
-driverForm = record { width = invocationWidth; column = invocationDriverColumn; number = callNumber; base = 0 }
-
-abbrev pub scheduleForm : Form
-scheduleForm = record { width = invocationWidth; column = invocationTaskColumn; number = scheduleNumber; base = 0 }
 
 -- the numbers in a block fit words, and so does the address of each of its stubs
 pub record Aimed (aim : Aim) : Type 0 where
@@ -37,16 +24,16 @@ pub record Aimed (aim : Aim) : Type 0 where
   pub ticks : aim .ticks ≤ greatestWord
   pub next : aim .next ≤ greatestWord
 
--- output copies of due tasks; due updates; all sensors
+-- what stands before the switch tests of a block: output copies of due tasks; due updates; all sensors
 abbrev pub headIn : List ℤ → List ℤ → List ℤ → Instant → List Words
 headIn ports invocations updates when =
-    formRows outputForm invocations when ++ (formRows updateForm updates when ++ sensorRows ports reading)
+    formRows OutputCopy invocations when ++ (formRows Update updates when ++ sensorRows ports reading)
 
--- (entry) due task drivers; their schedules
+-- what stands from the entry of a block to its `future`: due task drivers; their schedules
 abbrev pub bodyIn : List ℤ → Instant → List Words
-bodyIn invocations when = formRows driverForm invocations when ++ formRows scheduleForm invocations when
+bodyIn invocations when = formRows TaskDriver invocations when ++ formRows Schedule invocations when
 
--- `future` one unit, next unit's block; `return`
+-- what stands between the schedules of a block and its stubs: `future` one unit, next unit's block; `return`
 abbrev pub endIn : Aim → List Words
 endIn aim = map three (future (aim .ticks) (aim .next) ∷ return ∷ [])
 
@@ -59,7 +46,8 @@ partsIn T entries when aim =
     ++ (endIn aim
     ++ map three (stubsIn entries (switchesIn (T .switches) when)))))
 
--- how many there are of each
+-- how many rows of each table are due at the unit, and how many sensors there are
 abbrev pub countsAt : Tables → Instant → Counts
 countsAt T when =
-    countsIn (T .invocations) (T .updates) (T .switches) (length (sensorRows (T .ports) (λ p. p))) (when .mode .0) (when .units) (when .unit)
+    countsIn (T .invocations) (T .updates) (T .switches) (length (sensorRows (T .ports) (λ p. p))) (when .mode .0) (when .units)
+    (when .unit)

@@ -1,5 +1,4 @@
 -- What is written for the switches of a mode that are due: from the rows of their table, and the addresses at which modes are entered.
--- Assumes nothing.
 use Prim.Native.Nat.{ℕ, _≤_}
 use mathlib.Core.List.{List, [], _∷_}
 use lib.IntN.{ℤ}
@@ -12,19 +11,24 @@ use Rattle.code.specs.Listing.{callDriver}
 use Rattle.writing.specs.Rows.{dueAt}
 use Rattle.writing.specs.declared.rows.Instant.{Instant}
 
--- the switch that row i says
+-- the switch that row i of the table says
 abbrev pub switchIn : List ℤ → ℕ → Switch
-switchIn t i = record { frequency = rowFrequency switchWidth t i; target = namedAt switchWidth switchTargetColumn t i; driver = namedAt switchWidth switchDriverColumn t i }
+switchIn t i =
+    record {
+      frequency = rowFrequency switchWidth t i;
+      target = namedAt switchWidth switchTargetColumn t i;
+      driver = namedAt switchWidth switchDriverColumn t i;
+    }
 
--- the switches that are due
+-- the switches of the table that are due at the unit
 abbrev pub switchesIn : List ℤ → Instant → List Switch
 switchesIn t when = dueAt switchWidth t when (switchIn t)
 
--- for each switch `call driver`, `jump` to where its target is entered
+-- the stubs of switches: for each `call driver`, `jump` to where its target is entered
 abbrev pub stubsIn : List ℕ → List Switch → List Op
 stubsIn entries [] = []
 stubsIn entries (w ∷ ws) = callDriver (w .driver) ∷ jump (getD entries (w .target) 0) ∷ stubsIn entries ws
 
--- every address is a word
+-- every address of a list fits a word
 abbrev pub Addresses : List ℕ → Type 0
 Addresses entries = (m : ℕ) → getD entries m 0 ≤ greatestWord

@@ -1,5 +1,5 @@
 -- E code as it is written into a lent slice: the words of an instruction, and instructions one after the other.
--- Assumes nothing: a word past the end of the slice changes nothing.
+-- A word past the end of the slice changes nothing.
 use Prim.Native.Nat.{ℕ, _+_, _*_}
 use mathlib.Core.List.{List, [], _∷_}
 use lib.Seq.{sets}
@@ -13,10 +13,11 @@ pub record Words : Type 0 where
   pub first : ℕ
   pub second : ℕ
 
--- an instruction from its words; the words of one
+-- an instruction from its three words
 abbrev pub instruction : ℕ → ℕ → ℕ → Words
 instruction number first second = record { number = number; first = first; second = second }
 
+-- the three words of an instruction of E code
 abbrev pub three : Op → Words
 three (call n) = instruction callNumber n 0
 three (schedule t) = instruction scheduleNumber t 0
@@ -31,10 +32,11 @@ pub record Written : Type 0 where
   pub code : List ℕ
   pub at : ℕ
 
+-- a slice and an address as what is written so far
 abbrev pub written : List ℕ → ℕ → Written
 written code at = record { code = code; at = at }
 
--- instructions written one after the other
+-- the slice and the next address after these instructions are written, one after the other
 abbrev pub writes : List Words → Written → Written
 writes [] w = w
 writes (o ∷ os) w =

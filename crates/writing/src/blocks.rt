@@ -16,8 +16,6 @@ use crate::rows::Instant;
 use crate::sensors;
 use crate::switches;
 use crate::words;
-use cells::columns::invocation;
-use cells::columns::update;
 use cells::limits::Program;
 use cells::tables;
 use code::numbers;
@@ -29,7 +27,7 @@ pub struct Aim {
     pub next: usize,
 }
 
-// Output copies of due tasks; due updates; all sensors.
+// What stands before the switch tests of a block is written: output copies of due tasks; due updates; all sensors.
 fn head(
     code: &mut [u32],
     at: usize,
@@ -45,46 +43,22 @@ fn head(
     ensures { λ r. ⌜ written (now (code .exit)) r ≡ writes (headIn (now (ports .entry)) (now (invocations .entry))
         (now (updates .entry)) when) (written (now (code .entry)) at) ⌝ }
 {
-    let output = Form {
-        width: invocation::WIDTH,
-        column: invocation::TASK,
-        number: numbers::CALL,
-        base: Program::OUTPUT_CALL,
-    };
-    let change = Form {
-        width: update::WIDTH,
-        column: update::DRIVER,
-        number: numbers::CALL,
-        base: 0,
-    };
-    let updates_at = rows::due(code, at, invocations, output, when);
-    let sensors_at = rows::due(code, updates_at, updates, change, when);
+    let updates_at = rows::due(code, at, invocations, Form::OutputCopy, when);
+    let sensors_at = rows::due(code, updates_at, updates, Form::Update, when);
     sensors::sensors(code, sensors_at, ports)
 }
 
-// (Entry) due task drivers; their schedules.
+// What stands from the entry of a block to its `future` is written: due task drivers; their schedules.
 fn body(code: &mut [u32], at: usize, invocations: &[i32], when: Instant) -> usize
     requires { ⌜ at + maxInvocations + maxInvocations ≤ greatestWord ⌝ }
     requires { ⌜ rowsIn invocationWidth (now invocations) ≤ maxInvocations ⌝ }
     ensures { λ r. ⌜ written (now (code .exit)) r ≡ writes (bodyIn (now (invocations .entry)) when) (written (now (code .entry)) at) ⌝ }
 {
-    let driver = Form {
-        width: invocation::WIDTH,
-        column: invocation::DRIVER,
-        number: numbers::CALL,
-        base: 0,
-    };
-    let schedule = Form {
-        width: invocation::WIDTH,
-        column: invocation::TASK,
-        number: numbers::SCHEDULE,
-        base: 0,
-    };
-    let schedules_at = rows::due(code, at, invocations, driver, when);
-    rows::due(code, schedules_at, invocations, schedule, when)
+    let schedules_at = rows::due(code, at, invocations, Form::TaskDriver, when);
+    rows::due(code, schedules_at, invocations, Form::Schedule, when)
 }
 
-// `future` one unit, next unit's block; `return`.
+// The end of a block before its stubs is written: `future` one unit, next unit's block; `return`.
 fn end(code: &mut [u32], at: usize, aim: Aim) -> usize
     requires { ⌜ at < greatestWord ⌝ }
     requires { ⌜ Aimed aim ⌝ }
@@ -94,7 +68,7 @@ fn end(code: &mut [u32], at: usize, aim: Aim) -> usize
     words::instruction(code, next, numbers::RETURN, 0, 0)
 }
 
-// The parts of a block, one after the other.
+// The parts of a block are written, one after the other. The address behind the block is returned.
 pub fn parts(
     code: &mut [u32],
     at: usize,

@@ -10,35 +10,32 @@ ghost use Rattle.writing.specs.Written.{written, writes};
 ghost use Rattle.writing.specs.Rows.{reading};
 use crate::words;
 use cells::columns::port;
-use cells::limits::Program;
-use cells::table;
-use code::numbers;
+use cells::kinds::Port;
+use cells::ports;
 
-// The reading of port p, if it is a sensor; the next address is returned.
-fn sensor_row(code: &mut [u32], at: usize, ports: &[i32], p: usize) -> usize
+// The reading of port p is written if it is a sensor. The next address is returned.
+fn sensor_row(code: &mut [u32], at: usize, ports: &[i32], p: Port) -> usize
     requires { ⌜ at ≤ greatestWord ⌝ }
-    requires { ⌜ p ≤ maxPorts ⌝ }
-    ensures { λ r. ⌜ written (now (code .exit)) r ≡ writes (those (isSensor (now (ports .entry))) reading 1 p) (written
+    ensures { λ r. ⌜ written (now (code .exit)) r ≡ writes (those (isSensor (now (ports .entry))) reading 1 (p .0)) (written
         (now (code .entry)) at) ⌝ }
 {
-    if table::field(ports, port::WIDTH, p, port::KIND) == port::SENSOR {
-        return words::instruction(code, at, numbers::CALL, Program::SENSOR_CALL + p, 0);
+    if ports::kind(ports, p) == port::SENSOR {
+        return words::sensor_call(code, at, p);
     }
     at
 }
 
-// All sensors, in port order.
+// The readings of all sensors are written, in port order. The next address is returned.
 pub fn sensors(code: &mut [u32], at: usize, ports: &[i32]) -> usize
     requires { ⌜ at + rowsIn portWidth (now ports) ≤ greatestWord ⌝ }
     requires { ⌜ rowsIn portWidth (now ports) ≤ maxPorts ⌝ }
     ensures { λ r. ⌜ written (now (code .exit)) r ≡ writes (sensorRows (now (ports .entry)) reading) (written (now (code .entry)) at) ⌝ }
 {
-    let n = ports.len() / port::WIDTH;
     let mut next = at;
-    let mut p = 0;
-    while p < n {
+    let mut p = Port::of(0);
+    while ports::declared(ports, p) {
         next = sensor_row(code, next, ports, p);
-        p += 1;
+        p = p.next();
     }
     next
 }

@@ -14,11 +14,12 @@ use crate::rows::Instant;
 use crate::words;
 use cells::columns::switch;
 use cells::kinds::Driver;
+use cells::modes;
 use cells::table;
 use code::numbers;
 use program::due;
 
-// The test of row i, if it is due: `if driver stub`. The next address is returned.
+// The test of row i is written if the row is due: `if driver stub`. The next address is returned.
 fn test_row(
     code: &mut [u32],
     at: usize,
@@ -34,12 +35,12 @@ fn test_row(
 {
     if due::row_due(switches, switch::WIDTH, when.mode, when.units, when.unit, i) {
         let driver = table::driver(switches, switch::WIDTH, i, switch::DRIVER);
-        return words::instruction(code, at, numbers::IF, driver.index(), stub);
+        return words::test(code, at, driver, stub);
     }
     at
 }
 
-// The tests of the due rows, in table order; the first stub stands at `stub`, and each has two instructions.
+// The tests of the due rows are written, in table order; the first stub stands at `stub`, and each has two instructions.
 pub fn tests(code: &mut [u32], at: usize, switches: &[i32], when: Instant, stub: usize) -> usize
     requires { ⌜ at + rowsIn switchWidth (now switches) ≤ greatestWord ⌝ }
     requires { ⌜ stub + 2 * rowsIn switchWidth (now switches) ≤ greatestWord ⌝ }
@@ -56,18 +57,18 @@ pub fn tests(code: &mut [u32], at: usize, switches: &[i32], when: Instant, stub:
     next
 }
 
-// A stub: `call driver`, `jump` to an address.
+// A stub is written: `call driver`, `jump` to an address. The next address is returned.
 fn stub(code: &mut [u32], at: usize, driver: Driver, to: usize) -> usize
     requires { ⌜ at < greatestWord ⌝ }
     requires { ⌜ to ≤ greatestWord ⌝ }
     ensures { λ r. ⌜ written (now (code .exit)) r ≡ writes (map three (callDriver (driver .0) ∷ jump to ∷ [])) (written
         (now (code .entry)) at) ⌝ }
 {
-    let next = words::instruction(code, at, numbers::CALL, driver.index(), 0);
+    let next = words::driver_call(code, at, driver);
     words::instruction(code, next, numbers::JUMP, to, 0)
 }
 
-// The stub of row i, if it is due. The next address is returned.
+// The stub of row i is written if the row is due. The next address is returned.
 fn stub_row(
     code: &mut [u32],
     at: usize,
@@ -84,12 +85,12 @@ fn stub_row(
     if due::row_due(switches, switch::WIDTH, when.mode, when.units, when.unit, i) {
         let driver = table::driver(switches, switch::WIDTH, i, switch::DRIVER);
         let target = table::mode(switches, switch::WIDTH, i, switch::TARGET);
-        return stub(code, at, driver, words::address(entries, target));
+        return stub(code, at, driver, modes::address(entries, target));
     }
     at
 }
 
-// The stubs of the due rows, in table order.
+// The stubs of the due rows are written, in table order. The next address is returned.
 pub fn stubs(
     code: &mut [u32],
     at: usize,

@@ -1,4 +1,4 @@
--- `acceptance::shape_bad` meets its contract: the tables' shape, then that of the windows. Assumes nothing.
+-- `acceptance::shape_bad` meets its contract: the tables' shape, then that of the windows.
 use mathlib.Core.Path.{ap₂}
 use mathlib.Core.Bool.{Bool, _||_}
 use borrow.Author.Needs.{needs}

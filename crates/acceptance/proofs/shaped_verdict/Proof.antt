@@ -1,4 +1,4 @@
--- `acceptance::shaped_verdict` meets its contract: a number up to 11, else 12 where a window is wrong. Assumes nothing.
+-- `acceptance::shaped_verdict` meets its contract: a number up to 11, else 12 where a window is wrong.
 use Prim.Native.Nat.{ℕ}
 use mathlib.Core.Path.{_≡_, refl, sym, ap, _∙_}
 use native.Mathlib.Omega.{arith}
@@ -9,10 +9,10 @@ use Rattle.theory.proofs.Search.{hit, miss}
 use Rattle.theory.proofs.Verdict.{after-given}
 use Rattle.cells.specs.Refusals.{windowsRefused}
 use Rattle.program.specs.Tables.{tablesIn}
-use Rattle.lent.specs.Tables.{lentVerdict}
+use Rattle.verdict_2_11.specs.Tables.{tablesAndCodeVerdict}
 use Rattle.runs.specs.Windows.{windowCount}
 use Rattle.suppliers.specs.Windows.{Windowed, windowWrong, windowsBad}
-use Rattle.acceptance.specs.Lent.{windowed, shapedVerdict}
+use Rattle.acceptance.specs.Judged.{windowed, shapedVerdict}
 use Rattle.acceptance.proofs.shaped_verdict.Statement.{statement}
 use Rattle.acceptance.proofs.shaped_verdict.Tie as tie
 
@@ -21,22 +21,22 @@ abbrev lent : tie.Start → Windowed
 lent c = windowed (tablesIn (c .args .tables .now) (c .args .program .start)) (c .args .windows .now)
 
 -- number 12 is asked after those up to 11
-in-order : (L : Windowed) {n : ℕ} → n ≡ lentVerdict (L .tables) → shapedVerdict L ≡ after n (orElse (windowsBad L) windowsRefused acceptedNumber)
+in-order : (L : Windowed) {n : ℕ} → n ≡ tablesAndCodeVerdict (L .tables) → shapedVerdict L ≡ after n (orElse (windowsBad L) windowsRefused acceptedNumber)
 unfolding shapedVerdict
 in-order L e = ap (λ (n : ℕ). after n (orElse (windowsBad L) windowsRefused acceptedNumber)) (sym e)
 
--- none up to 11 was given: number 12 decides
+-- where no number up to 11 was given, number 12 decides
 passed : (c : tie.Else1)
     → shapedVerdict (lent (c .before .before)) ≡ orElse (windowsBad (lent (c .before .before))) windowsRefused acceptedNumber
 passed c =
-    let z : acceptedNumber ≡ c .before .lent-verdict .result = omega (arith, c .if1 .left) in
-    in-order (lent (c .before .before)) (z ∙ c .before .lent-verdict .ensures)
+    let z : acceptedNumber ≡ c .before .tables-and-code .result = omega (arith, c .if1 .left) in
+    in-order (lent (c .before .before)) (z ∙ c .before .tables-and-code .ensures)
 
-lent-verdict-requires : tie.Need-lent-verdict-requires
-lent-verdict-requires c κs = search needs
+tables-and-code-requires : tie.Need-tables-and-code-requires
+tables-and-code-requires c κs = search needs
 
 returns : tie.Need-returns
-returns c = sym (in-order (lent (c .before .before)) (c .before .lent-verdict .ensures) ∙ after-given _ _ (c .if1 .taken))
+returns c = sym (in-order (lent (c .before .before)) (c .before .tables-and-code .ensures) ∙ after-given _ _ (c .if1 .taken))
 
 element-copy-out-first-wrong-window : tie.Need-element-copy-out-first-wrong-window
 element-copy-out-first-wrong-window c = search needs
@@ -66,7 +66,7 @@ pub shaped-verdict-spec : {M : Type 1} → statement M
 shaped-verdict-spec =
     tie.close
     (tie.spec
-    lent-verdict-requires
+    tables-and-code-requires
     returns
     element-copy-out-first-wrong-window
     first-wrong-window-requires

@@ -1,5 +1,5 @@
 -- `acceptance::supplier_verdict` meets its contract: 1, what both calls ask, 13, then the run of every mode as it was counted; the
--- supplier goes through its bits once. Assumes nothing.
+-- supplier goes through its bits once.
 use Prim.Native.Nat.{ℕ}
 use mathlib.Core.Path.{_≡_, sym, ap, ap₂, _∙_}
 use mathlib.Core.Bool.{Bool, false, _||_}
@@ -19,7 +19,7 @@ use Rattle.rules.specs.Verdict.{programVerdict}
 use Rattle.rules.proofs.Accepted.{accepted-fields}
 use Rattle.code.specs.Compile.{CodeFits}
 use Rattle.layout.specs.Layout.{startIn}
-use Rattle.layout.proofs.Limits.{told-most, few-sensors}
+use Rattle.layout.proofs.Limits.{told-most, few-ports, few-sensors}
 use Rattle.runs.specs.Round.{worstBreak, nothing}
 use Rattle.suppliers.specs.Windows.{windowsShapeBad}
 use Rattle.suppliers.specs.Schedule.{partBad}
@@ -29,25 +29,25 @@ use Rattle.suppliers.proofs.Accepted.{windows-shaped, part-shaped}
 use Rattle.suppliers.proofs.Answers.{supplier-refused, supplier-judged}
 use Rattle.rounds.specs.Course.{courseOn}
 use Rattle.rounds.proofs.Courses.{judged-counted}
-use Rattle.acceptance.specs.Lent.{asked, shapedVerdict}
+use Rattle.acceptance.specs.Judged.{asked, shapedVerdict}
 use Rattle.acceptance.proofs.Calls.{shaped-accepted, part-one, part-given, part-own}
 use Rattle.acceptance.proofs.supplier_verdict.Statement.{statement}
 use Rattle.acceptance.proofs.supplier_verdict.Tie as tie
 
--- all that was lent, with a start mode; with its own
+-- all that was lent, with any start mode (`with-start`), and with the start mode that was lent (`lent`)
 abbrev with-start : tie.Start → ℤ → Asked
 with-start c start = asked (tablesIn (c .args .tables .now) start) (c .args .windows .now) (c .args .part .now) (c .args .supplier)
 
 abbrev lent : tie.Start → Asked
 lent c = with-start c (c .args .program .start)
 
--- number 1, whatever the start mode
+-- what was told of number 1 holds whatever the start mode
 shape-told : (c : tie.After-bad-slice) (start : ℤ)
     → (c .before .shape-bad .result || c .bad-slice .result) ≡ partShapeBad (with-start (c .before .before) start)
 unfolding partShapeBad windowsShapeBad
 shape-told c start = ap₂ (λ (a b : Bool). a || b) (c .before .shape-bad .ensures start) (c .bad-slice .ensures)
 
--- it did not apply
+-- number 1 did not apply to what was lent
 shaped : (c : tie.Else1) (start : ℤ) → partShapeBad (with-start (c .before .before .before) start) ≡ false
 shaped c start = sym (shape-told (c .before) start) ∙ c .if1 .left
 
@@ -64,13 +64,13 @@ accepted : (c : tie.Else2) → (programVerdict (lent (c .before .before .before 
 accepted c =
     let L = lent (c .before .before .before .before .before) in shaped-accepted (windowedOf L) (in-shape (c .before .before) (L .tables .start)) (none c)
 
--- the supplier asked about
+-- the supplier asked about is the one whose number was lent
 own : (c : tie.After-index) → c .index .result ≡ supplierOf (lent (c .before .before .before .before .before .before))
 own c =
     let s = c .before .before .before .before .before .before in
     c .index .ensures ∙ ap indexOf (back (s .args .supplier) (s .fits .supplier .sfits))
 
--- number 13
+-- what was told of number 13 holds of the part that was lent
 part-told : (c : tie.After-refused) → let L = lent (c .before .before .before .before .before .before .before) in
     c .refused .result ≡ partBad (L .tables) (L .part) (supplierOf L)
 part-told c =
@@ -78,7 +78,7 @@ part-told c =
     let a = accepted (c .before .before) in
     c .refused .ensures .1 (L .tables .start) (a .0) (a .1) ∙ ap (partBad (L .tables) (L .part)) (own (c .before))
 
--- it did not apply
+-- number 13 did not apply to the part that was lent
 part-fits : (c : tie.Else3) → let L = lent (c .before .before .before .before .before .before .before .before) in
     partBad (L .tables) (L .part) (supplierOf L) ≡ false
 part-fits c = sym (part-told (c .before)) ∙ c .if3 .left
@@ -140,7 +140,10 @@ element-copy-out-sensors : tie.Need-element-copy-out-sensors
 element-copy-out-sensors c = search needs
 
 sensors-requires : tie.Need-sensors-requires
-sensors-requires c κs = search needs
+sensors-requires c κs =
+    let e = c .before .before .before .before in
+    let L = lent (e .before .before .before .before .before) in
+    few-ports (L .tables) (in-shape (e .before .before) (L .tables .start))
 
 answer-requires : tie.Need-answer-requires
 answer-requires c κs =

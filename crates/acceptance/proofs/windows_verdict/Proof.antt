@@ -1,4 +1,4 @@
--- `acceptance::windows_verdict` meets its contract: 1, then what both calls ask. Assumes nothing.
+-- `acceptance::windows_verdict` meets its contract: 1, then what both calls ask.
 use mathlib.Core.Path.{sym, _∙_}
 use borrow.Author.Needs.{needs}
 use Rattle.theory.proofs.Conditions.{or-else-yes, or-else-no}
@@ -6,7 +6,7 @@ use Rattle.cells.specs.Refusals.{shapeRefused}
 use Rattle.program.specs.Tables.{tablesIn}
 use Rattle.suppliers.specs.Windows.{Windowed}
 use Rattle.suppliers.proofs.Accepted.{windows-shaped}
-use Rattle.acceptance.specs.Lent.{windowed, shapedVerdict}
+use Rattle.acceptance.specs.Judged.{windowed, shapedVerdict}
 use Rattle.acceptance.proofs.Calls.{windows-number}
 use Rattle.acceptance.proofs.windows_verdict.Statement.{statement}
 use Rattle.acceptance.proofs.windows_verdict.Tie as tie

@@ -1,4 +1,4 @@
--- `compiler::compile` meets its contract: a number up to 10 refuses, else 11 or the listing follows. Assumes nothing.
+-- `compiler::compile` meets its contract: a number up to 10 refuses, else 11 or the listing follows.
 use mathlib.Core.Path.{_≡_, sym, ap, _∙_}
 use native.Mathlib.Omega.{arith}
 use borrow.Author.Needs.{needs}

@@ -1,4 +1,4 @@
--- `instants::spent` meets its contract: the next address is inside the code or not. Assumes nothing.
+-- `instants::spent` meets its contract: the next address is inside the code or not.
 use Rattle.instants.proofs.Running.{spent-inside, spent-outside}
 use Rattle.instants.proofs.spent.Statement.{statement}
 use Rattle.instants.proofs.spent.Tie as tie

@@ -1,4 +1,4 @@
--- `operation::advance` meets its contract: a number before anything runs, or the step of what has none. Assumes nothing.
+-- `operation::advance` meets its contract: a number before anything runs, or the step of what has none.
 use mathlib.Core.Path.{_≡_, sym, _∙_}
 use native.Mathlib.Omega.{arith}
 use borrow.Author.Needs.{needs}
@@ -7,7 +7,7 @@ use Rattle.program.specs.Tables.{tablesIn}
 use Rattle.machine.specs.Advance.{Advance, advanceVerdict}
 use Rattle.machine.proofs.Answered.{advance-refused, advance-steps}
 use Rattle.rules.proofs.Shape.{any-start}
-use Rattle.operation.specs.Lent.{lent, advancing}
+use Rattle.operation.specs.Advancing.{lentOf, advancing}
 use Rattle.operation.proofs.Numbers.{runs-shaped, runs-few, runs-rows, runs-state}
 use Rattle.operation.proofs.advance.Statement.{statement}
 use Rattle.operation.proofs.advance.Tie as tie
@@ -16,7 +16,7 @@ use Rattle.operation.proofs.advance.Tie as tie
 abbrev asked : tie.Start → Advance
 asked c =
     advancing (tablesIn (c .args .tables .now) (c .args .program .start)) (c .args .code .now) (c .args .schedule .now) (c .args .s)
-    (lent (c .args .readings .now) (c .args .results .now) (c .args .times .now))
+    (lentOf (c .args .readings .now) (c .args .results .now) (c .args .times .now))
 
 -- there is no number
 none : (c : tie.Else1) → advanceVerdict (asked (c .before .before .before)) ≡ acceptedNumber

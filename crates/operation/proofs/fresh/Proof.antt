@@ -1,4 +1,4 @@
--- `operation::fresh` meets its contract: the program's number, or a state with its first values. Assumes nothing.
+-- `operation::fresh` meets its contract: the program's number, or a state with its first values.
 use mathlib.Core.Path.{refl, sym, ap, _∙_}
 use native.Mathlib.Omega.{arith}
 use borrow.Author.Needs.{needs}

@@ -1,5 +1,5 @@
 -- `operation::step` meets its contract: a refusal of the E code, a refusal of the tick, or the state after both. The state between them is
--- within its limits, whatever the start mode. Assumes nothing.
+-- within its limits, whatever the start mode.
 use Prim.Native.Nat.{ℕ, _<_}
 use mathlib.Core.Path.{_≡_, refl, sym, subst}
 use native.Mathlib.Omega.{arith}
@@ -11,14 +11,14 @@ use Rattle.code.proofs.Fetch.{instructions-length}
 use Rattle.machine.specs.Instant.{ok}
 use Rattle.machine.specs.Advance.{Lent, ready}
 use Rattle.instants.proofs.Declared.{programIn}
-use Rattle.operation.specs.Lent.{lent}
+use Rattle.operation.specs.Advancing.{lentOf}
 use Rattle.operation.proofs.Answers.{ready-told, ready-small, step-stops, tick-stops, tick-passes}
 use Rattle.operation.proofs.step.Statement.{statement}
 use Rattle.operation.proofs.step.Tie as tie
 
 -- what was lent to the tick
 abbrev given : tie.Start → Lent
-given c = lent (c .args .readings .now) (c .args .results .now) (c .args .times .now)
+given c = lentOf (c .args .readings .now) (c .args .results .now) (c .args .times .now)
 
 -- what was known when it began
 abbrev start : tie.Else1 → tie.Start

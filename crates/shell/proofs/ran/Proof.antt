@@ -1,4 +1,4 @@
--- `shell::ran` meets its contract: what was heard, the answer to it, what was printed of that. Assumes nothing.
+-- `shell::ran` meets its contract: what was heard, the answer to it, what was printed of that.
 use borrow.Author.Needs.{needs}
 use Rattle.shell.proofs.Running.{ran}
 use Rattle.shell.proofs.ran.Statement.{statement}

@@ -1,4 +1,4 @@
--- `vectors::main` is safe and ends: one turn an argument. Assumes nothing.
+-- `vectors::main` is safe and ends: one turn an argument.
 use Prim.Native.Nat.{_-_}
 use borrow.Author.Needs.{needs}
 use Rattle.vectors.proofs.main.Statement.{statement}

@@ -1,23 +1,17 @@
--- `verdict::applies` meets its contract: each number has the test of its refusal. Assumes nothing.
-use Prim.Native.Nat.{ℕ, zero, suc, _≤_, _<_}
-use mathlib.Core.Path.{_≡_, refl, sym, ap, _∙_}
-use mathlib.Core.Bool.{Bool, false, _||_}
+-- `verdict::applies` meets its contract: each number has the test of its refusal.
+use Prim.Native.Nat.{ℕ}
+use mathlib.Core.Path.{_≡_, refl, sym, _∙_}
+use mathlib.Core.Bool.{Bool}
 use lib.Dec.{ltb}
 use lib.IntN.{ℤ}
-use native.Mathlib.Omega.{arith}
 use borrow.Author.Needs.{needs}
 use Rattle.theory.specs.Search.{any, first}
 use Rattle.theory.proofs.Search.{search-says}
-use Rattle.cells.specs.Cell.{nameOf}
-use Rattle.cells.specs.Limits.{maxModes}
-use Rattle.cells.proofs.Names.{name-small}
-use Rattle.program.specs.Tables.{Tables, tablesIn, modeWidth, modeCount}
-use Rattle.rules.specs.Shape.{shapeBad}
+use Rattle.program.specs.Tables.{Tables, tablesIn}
 use Rattle.rules.specs.Declared.{taskPortsBad, copiesBad, modePortsBad}
 use Rattle.rules.specs.Modes.{invocationsBad, updatesBad, switchesBad}
-use Rattle.rules.specs.Timing.{unitsWrong, unitsBad, wholeBad}
+use Rattle.rules.specs.Timing.{unitsBad, wholeBad}
 use Rattle.rules.specs.Verdict.{tableRefusals}
-use Rattle.rules.proofs.Shape.{whole-few, shape-bars}
 use Rattle.verdict.specs.Asked.{appliesBy}
 use Rattle.verdict.proofs.Asked.{applies-as, applies-other}
 use Rattle.verdict.proofs.applies.Statement.{statement}
@@ -80,8 +74,11 @@ count-requires-6 c κs = search needs
 first-wrong-units-requires : tie.Need-first-wrong-units-requires
 first-wrong-units-requires c κs = search needs
 
-count-requires-7 : tie.Need-count-requires-7
-count-requires-7 c κs = search needs
+element-copy-out-declared : tie.Need-element-copy-out-declared
+element-copy-out-declared c = search needs
+
+declared-requires : tie.Need-declared-requires
+declared-requires c κs = search needs
 
 element-copy-out-first-not-whole : tie.Need-element-copy-out-first-not-whole
 element-copy-out-first-not-whole c = search needs
@@ -92,29 +89,17 @@ element-copy-out-first-not-whole-2 c = search needs
 first-not-whole-requires : tie.Need-first-not-whole-requires
 first-not-whole-requires c κs = search needs
 
-count-requires-8 : tie.Need-count-requires-8
-count-requires-8 c κs = search needs
+count-requires-7 : tie.Need-count-requires-7
+count-requires-7 c κs = search needs
 
 -- the program that was lent
 abbrev lent : tie.Start → Tables
 lent s = tablesIn (s .args .tables .now) (s .args .program .start)
 
--- whether a search of a table's rows found one, where that is what the number asks
+-- where a number asks whether some row of a table passes, it applies where the search of the rows found one
 found : (s : tie.Start) {k : ℕ} → s .args .number ≡ k → (p : ℕ → Bool) {n m r : ℕ} → r ≡ first p n
     → (ℤ → m ≡ n) → any p n ≡ appliesBy tableRefusals k (lent s) → ltb r m ≡ appliesBy tableRefusals (s .args .number) (lent s)
 found s e p f g h = applies-as tableRefusals (lent s) e (search-says p f (g (lent s .start)) ∙ h)
-
--- tests that agree on every row agree on some row
-any-alike : (p q : ℕ → Bool) (n : ℕ) → ((k : ℕ) → k < n → p k ≡ q k) → any p n ≡ any q n
-unfolding any
-any-alike p q zero h = refl
-any-alike p q (suc n) h = λ i. any-alike p q n (λ k l. h k (omega arith)) i || h n (omega arith) i
-
--- tables of their shape have few modes: each is the one that its row names
-named : (T : Tables) → shapeBad T ≡ false → any (λ m. unitsWrong T (nameOf m)) (modeCount T) ≡ any (unitsWrong T) (modeCount T)
-named T e =
-    let few : modeCount T ≤ maxModes = whole-few modeWidth maxModes (T .modes) (shape-bars T .ok e .modes) in
-    any-alike (λ m. unitsWrong T (nameOf m)) (unitsWrong T) (modeCount T) (λ m l. ap (unitsWrong T) (name-small m (omega arith)))
 
 returns : tie.Need-returns
 returns c = applies-as tableRefusals _ (c .before .match .keys1) (c .fields-bad .ensures)
@@ -158,16 +143,14 @@ returns-7 c =
 returns-8 : tie.Need-returns-8
 unfolding unitsBad
 returns-8 c =
-    let m = c .before .before in
-    let T = lent (m .before) in
-    let shaped = m .before .pre (T .start) in
-    found (m .before) (m .match .keys8) _ (c .before .first-wrong-units .ensures _) (c .count7 .ensures) (named T shaped)
+    let m = c .before .before .before in
+    c .declared .ensures ∙ found (m .before) (m .match .keys8) _ (c .before .before .first-wrong-units .ensures _) (λ z. refl) refl
 
 returns-9 : tie.Need-returns-9
 unfolding wholeBad
 returns-9 c =
     let m = c .before .before .before .before in
-    found (m .before) (m .match .keys9) _ (c .before .first-not-whole .ensures (lent (m .before)) refl refl) (c .count8 .ensures) refl
+    found (m .before) (m .match .keys9) _ (c .before .first-not-whole .ensures (lent (m .before)) refl refl) (c .count7 .ensures) refl
 
 returns-10 : tie.Need-returns-10
 returns-10 c = sym (applies-other (Unit {0}) tableRefusals (lent (c .before)) (c .before .args .number) (c .match .rest) .1)
@@ -195,11 +178,12 @@ applies-spec =
     first-wrong-switch-requires
     count-requires-6
     first-wrong-units-requires
-    count-requires-7
+    element-copy-out-declared
+    declared-requires
     element-copy-out-first-not-whole
     element-copy-out-first-not-whole-2
     first-not-whole-requires
-    count-requires-8
+    count-requires-7
     returns
     returns-2
     returns-3

@@ -1,4 +1,4 @@
--- `verdict::program_verdict` meets its contract: number 1, then the rest of tables that have their shape. Assumes nothing.
+-- `verdict::program_verdict` meets its contract: number 1, then the rest of tables that have their shape.
 use mathlib.Core.Path.{sym, _∙_}
 use borrow.Author.Needs.{needs}
 use Rattle.theory.proofs.Conditions.{or-else-yes, or-else-no}

@@ -1,4 +1,4 @@
--- `verdict::table_verdict` meets its contract: each number that does not apply leaves the refusals after it. Assumes nothing.
+-- `verdict::table_verdict` meets its contract: each number that does not apply leaves the refusals after it.
 use Prim.Native.Nat.{ℕ, _-_}
 use mathlib.Core.Path.{_≡_, refl, sym, ap, _∙_}
 use mathlib.Core.List.{List}

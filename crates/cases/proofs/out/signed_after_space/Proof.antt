@@ -1,4 +1,4 @@
--- `cases::out::signed_after_space` is safe: a number below 0 has a magnitude of at most 2^31. Assumes nothing.
+-- `cases::out::signed_after_space` is safe: a number below 0 has a magnitude of at most 2^31.
 use mathlib.Core.Path.{_≡_, _∙_}
 use mathlib.Core.Bool.{true}
 use native.Mathlib.Omega.{arith}

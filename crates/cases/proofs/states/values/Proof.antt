@@ -1,4 +1,4 @@
--- `cases::states::values` is safe and ends: both buffers keep their lengths. Assumes nothing.
+-- `cases::states::values` is safe and ends: both buffers keep their lengths.
 use Prim.Native.Nat.{_-_}
 use mathlib.Core.Path.{_≡_}
 use lib.ListN.{length}

@@ -1,4 +1,4 @@
--- `cases::stream::next` is safe and ends: the buffer keeps its length, and the turns run out. Assumes nothing.
+-- `cases::stream::next` is safe and ends: the buffer keeps its length, and the turns run out.
 use mathlib.Core.Path.{_≡_}
 use lib.ListN.{length}
 use borrow.Author.Needs.{needs}

@@ -1,4 +1,4 @@
--- `cases::tables::fill` is safe and ends: the buffers keep their lengths. Assumes nothing.
+-- `cases::tables::fill` is safe and ends: the buffers keep their lengths.
 use Prim.Native.Nat.{_-_}
 use mathlib.Core.Path.{_≡_}
 use lib.ListN.{length}
@@ -15,8 +15,8 @@ abbrev μ-loop : tie.MeasureT-loop
 loop-holds : tie.Need-loop-holds Inv-loop μ-loop
 loop-holds c = search needs
 
-next-requires : tie.Need-next-requires Inv-loop μ-loop
-next-requires c κs = search needs
+put-next-requires : tie.Need-put-next-requires Inv-loop μ-loop
+put-next-requires c κs = search needs
 
 same-length : tie.Need-same-length Inv-loop μ-loop
 same-length c = search needs
@@ -58,7 +58,7 @@ fill-spec =
     Inv-loop
     μ-loop
     loop-holds
-    next-requires
+    put-next-requires
     same-length
     same-length-2
     same-length-3

@@ -1,4 +1,4 @@
--- `cases::tables::program` is safe and ends: the buffers keep their lengths. Assumes nothing.
+-- `cases::tables::program` is safe and ends: the buffers keep their lengths.
 use Prim.Native.Nat.{_-_}
 use mathlib.Core.Path.{_≡_}
 use lib.ListN.{length}

@@ -1,4 +1,4 @@
--- `cells::kinds::name` meets its contract: a number below 255 fits a byte, any other is 255. Assumes nothing.
+-- `cells::kinds::name` meets its contract: a number below 255 fits a byte, any other is 255.
 use mathlib.Core.Path.{sym}
 use borrow.Author.Needs.{needs}
 use Rattle.cells.proofs.Names.{name-small, name-unnamed}

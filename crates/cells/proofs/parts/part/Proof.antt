@@ -1,4 +1,4 @@
--- `cells::parts::part` meets its contract: a part that is cut to what there is. Assumes nothing.
+-- `cells::parts::part` meets its contract: a part that is cut to what there is.
 use Rattle.cells.proofs.Held.{part-is}
 use borrow.Author.Needs.{needs}
 use Rattle.cells.proofs.parts.part.Statement.{statement}

@@ -1,4 +1,4 @@
--- `cells::parts::words` meets its contract: more instructions than there are words for are all. Assumes nothing.
+-- `cells::parts::words` meets its contract: more instructions than there are words for are all.
 use Prim.Native.Nat.{_*_}
 use mathlib.Core.Path.{sym, ap}
 use native.Mathlib.Omega.{arith}

@@ -1,4 +1,4 @@
--- `cells::table::driver` meets its contract: the driver that the number of the column names. Assumes nothing.
+-- `cells::table::driver` meets its contract: the driver that the number of the column names.
 use borrow.Author.Needs.{needs}
 use Rattle.cells.proofs.Place.{named}
 use Rattle.cells.proofs.table.driver.Statement.{statement}

@@ -1,4 +1,4 @@
--- `cells::table::field` meets its contract: the place of a column does not wrap, and past the last row stands 0. Assumes nothing.
+-- `cells::table::field` meets its contract: the place of a column does not wrap, and past the last row stands 0.
 use mathlib.Core.Path.{sym}
 use native.Mathlib.Omega.{arith}
 use borrow.Author.Needs.{needs}

@@ -1,4 +1,4 @@
--- `cells::table::index` meets its contract: a number that is not negative is its bits. Assumes nothing.
+-- `cells::table::index` meets its contract: a number that is not negative is its bits.
 use mathlib.Core.Path.{sym}
 use native.Mathlib.Omega.{arith}
 use mir.Syntax.{w32}

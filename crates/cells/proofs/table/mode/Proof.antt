@@ -1,4 +1,4 @@
--- `cells::table::mode` meets its contract: the mode that the number of the column names. Assumes nothing.
+-- `cells::table::mode` meets its contract: the mode that the number of the column names.
 use borrow.Author.Needs.{needs}
 use Rattle.cells.proofs.Place.{named}
 use Rattle.cells.proofs.table.mode.Statement.{statement}

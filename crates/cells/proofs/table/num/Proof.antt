@@ -1,4 +1,4 @@
--- `cells::table::num` meets its contract: `index` read the number from its bits, and past the end stands 0. Assumes nothing.
+-- `cells::table::num` meets its contract: `index` read the number from its bits, and past the end stands 0.
 use mathlib.Core.Path.{sym, ap, _∙_}
 use denote.Ref.{now}
 use borrow.Author.Needs.{needs}

@@ -1,4 +1,4 @@
--- `cells::table::port` meets its contract: the port that the number of the column names. Assumes nothing.
+-- `cells::table::port` meets its contract: the port that the number of the column names.
 use borrow.Author.Needs.{needs}
 use Rattle.cells.proofs.Place.{named}
 use Rattle.cells.proofs.table.port.Statement.{statement}

@@ -1,4 +1,4 @@
--- `cells::table::put_value` meets its contract: past the end a slice stays as it is. Assumes nothing.
+-- `cells::table::put_value` meets its contract: past the end a slice stays as it is.
 use mathlib.Core.Path.{sym}
 use lib.Seq.{set-out}
 use borrow.Author.Needs.{needs}

@@ -1,4 +1,4 @@
--- `cells::table::signed` meets its contract: the place of a column does not wrap, and past the last row stands 0. Assumes nothing.
+-- `cells::table::signed` meets its contract: the place of a column does not wrap, and past the last row stands 0.
 use mathlib.Core.Path.{sym}
 use native.Mathlib.Omega.{arith}
 use denote.Ref.{now}

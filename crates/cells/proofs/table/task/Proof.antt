@@ -1,4 +1,4 @@
--- `cells::table::task` meets its contract: the task that the number of the column names. Assumes nothing.
+-- `cells::table::task` meets its contract: the task that the number of the column names.
 use borrow.Author.Needs.{needs}
 use Rattle.cells.proofs.Place.{named}
 use Rattle.cells.proofs.table.task.Statement.{statement}

@@ -1,4 +1,4 @@
--- `cells::table::value` meets its contract: past the end stands 0. Assumes nothing.
+-- `cells::table::value` meets its contract: past the end stands 0.
 use mathlib.Core.Path.{sym}
 use denote.Ref.{now}
 use lib.IntN.{pos}

@@ -1,4 +1,4 @@
--- `cells::table::word` meets its contract: a word fits, and past the end stands 0. Assumes nothing.
+-- `cells::table::word` meets its contract: a word fits, and past the end stands 0.
 use mathlib.Core.Path.{sym}
 use native.Mathlib.Omega.{arith}
 use denote.Ref.{now}

@@ -1,5 +1,4 @@
 -- `compiler::accepted::listed` meets its contract: number 11 is told by the layout's length, and what is written is the listing.
--- Assumes nothing.
 use mathlib.Core.Path.{sym, ap, _∙_}
 use native.Mathlib.Omega.{arith}
 use lib.IntN.{ℤ, pos}
@@ -8,7 +7,7 @@ use borrow.Author.Needs.{needs}
 use Rattle.program.specs.Tables.{Tables, tablesIn}
 use Rattle.program.proofs.Decoded.{sensors-rows}
 use Rattle.layout.specs.Layout.{LaidOut}
-use Rattle.layout.proofs.Limits.{told-most, few-sensors}
+use Rattle.layout.proofs.Limits.{told-most, few-ports, few-sensors}
 use Rattle.compiler.specs.Listed.{compiling}
 use Rattle.compiler.proofs.Outcomes.{listed-refused, long-told, all-written}
 use Rattle.compiler.proofs.accepted.listed.Statement.{statement}
@@ -18,10 +17,11 @@ use Rattle.compiler.proofs.accepted.listed.Tie as tie
 abbrev lent : tie.Start → ℤ → Tables
 lent s start = tablesIn (s .args .tables .now) start
 
--- the layout is that of the program that they say
+-- the function's entry, from behind the call of `lay_out`
 abbrev start-of : tie.After-lay-out → tie.Start
 start-of c = c .before .before .before .before
 
+-- the layout is that of the program that the tables say
 laid : (c : tie.After-lay-out) (start : ℤ) → LaidOut (lent (start-of c) start) (c .lay-out .result)
 laid c start = c .lay-out .ensures .1 .0 start (c .before .sensors .ensures ∙ sym (ap length (sensors-rows (lent (start-of c) start))))
 
@@ -29,7 +29,7 @@ element-copy-out-sensors : tie.Need-element-copy-out-sensors
 element-copy-out-sensors c = search needs
 
 sensors-requires : tie.Need-sensors-requires
-sensors-requires c κs = search needs
+sensors-requires c κs = let s = c .before .before in few-ports (lent s (pos 0)) (s .pre .0 (pos 0))
 
 lay-out-requires : tie.Need-lay-out-requires
 lay-out-requires c κs =

@@ -1,4 +1,4 @@
--- `compiler::listing::all` meets its contract: the modes stand behind the jump. Assumes nothing.
+-- `compiler::listing::all` meets its contract: the modes stand behind the jump.
 use Prim.Native.Nat.{ℕ, _≤_}
 use mathlib.Core.Path.{sym, ap, subst, _∙_}
 use mathlib.Core.List.{[], _∷_}

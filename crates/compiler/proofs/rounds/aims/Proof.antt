@@ -1,4 +1,4 @@
--- `compiler::rounds::aims` meets its contract: the counts say how far it is to the stubs and to the end. Assumes nothing.
+-- `compiler::rounds::aims` meets its contract: the counts say how far it is to the stubs and to the end.
 use mathlib.Core.Path.{refl}
 use borrow.Author.Needs.{needs}
 use Rattle.compiler.proofs.rounds.aims.Statement.{statement}

@@ -1,4 +1,4 @@
--- `compiler::rounds::all_blocks` meets its contract: after so many units their blocks are written. Assumes nothing.
+-- `compiler::rounds::all_blocks` meets its contract: after so many units their blocks are written.
 use Prim.Native.Nat.{ℕ, _-_}
 use mathlib.Core.Path.{_≡_, ap, _∙_}
 use mathlib.Core.List.{List}
@@ -16,7 +16,7 @@ use Rattle.compiler.proofs.Aims.{block-length, start-before}
 use Rattle.compiler.proofs.rounds.all_blocks.Statement.{statement}
 use Rattle.compiler.proofs.rounds.all_blocks.Tie as tie
 
--- the block of unit k, where it stands
+-- the block of unit k, at its address
 abbrev piece : Tables → List ℕ → Round → ℕ → List Words
 piece T entries round k = blockIn T entries round k (blockStart T round k)
 
@@ -27,14 +27,14 @@ Inv-loop code₀ lent entries sensors round n at₀ unit₀ code at unit =
 abbrev μ-loop : tie.MeasureT-loop
 μ-loop code₀ lent entries sensors round n at₀ unit₀ code at unit = round .units - unit
 
--- where the loop began, and the tables that were lent, whatever the start mode
+-- where the function began, from its loop
 abbrev start-of : tie.At-loop Inv-loop μ-loop → tie.Start Inv-loop μ-loop
 start-of c = c .before .before .before
 
 abbrev lent : tie.Start Inv-loop μ-loop → Tables
 lent s = tablesIn (s .args .tables .now) (pos 0)
 
--- the next block stands where its unit's does
+-- the next block stands where that of its unit does
 here : (c : tie.At-loop Inv-loop μ-loop) → let s = start-of c in c .loop .at ≡ blockStart (lent s) (s .args .round) (c .loop .unit)
 here c =
     let s = start-of c in

@@ -1,4 +1,4 @@
--- `compiler::rounds::block` meets its contract: its numbers are those that the counts say. Assumes nothing.
+-- `compiler::rounds::block` meets its contract: its numbers are those that the counts say.
 use Prim.Native.Nat.{ℕ}
 use mathlib.Core.Path.{_≡_, sym, ap, subst, _∙_}
 use lib.IntN.{pos}
@@ -16,7 +16,7 @@ use Rattle.compiler.proofs.Aims.{aimed}
 use Rattle.compiler.proofs.rounds.block.Statement.{statement}
 use Rattle.compiler.proofs.rounds.block.Tie as tie
 
--- the tables that were lent, whatever the start mode, and what is due
+-- the tables that were lent, whatever the start mode
 abbrev lent : tie.Start → Tables
 lent s = tablesIn (s .args .tables .now) (pos 0)
 
@@ -26,7 +26,7 @@ due s = countsAt (lent s) (unitOf (s .args .round) (s .args .unit))
 few : (s : tie.Start) → Sized (due s)
 few s = sized (lent s) (unitOf (s .args .round) (s .args .unit)) (s .pre .0 (pos 0))
 
--- it was counted so
+-- the function's entry, from behind the call of `count`
 abbrev start-of : tie.After-count → tie.Start
 start-of c = c .before .before .before .before .before .before .before
 

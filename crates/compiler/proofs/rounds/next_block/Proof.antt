@@ -1,4 +1,4 @@
--- `compiler::rounds::next_block` meets its contract: the test asks for the last unit. Assumes nothing.
+-- `compiler::rounds::next_block` meets its contract: the test asks for the last unit.
 use borrow.Author.Needs.{needs}
 use Rattle.compiler.proofs.Aims.{next-last, next-other}
 use Rattle.compiler.proofs.rounds.next_block.Statement.{statement}

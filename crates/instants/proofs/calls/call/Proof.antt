@@ -1,4 +1,4 @@
--- `instants::calls::call` meets its contract: the number's range says what it names. Assumes nothing.
+-- `instants::calls::call` meets its contract: the number's range says what it names.
 use mathlib.Core.Path.{refl, ap, _∙_}
 use native.Mathlib.Omega.{arith}
 use borrow.Author.Needs.{needs}

@@ -1,4 +1,4 @@
--- `instants::calls::sensor_call` meets its contract: a number is that of a sensor exactly where its name is. Assumes nothing.
+-- `instants::calls::sensor_call` meets its contract: a number is that of a sensor exactly where its name is.
 use mathlib.Core.Path.{sym, _∙_}
 use borrow.Author.Needs.{needs}
 use borrow.Author.Tests.{not-true, not-false}

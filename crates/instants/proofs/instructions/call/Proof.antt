@@ -1,4 +1,4 @@
--- `instants::instructions::call` meets its contract: it comes to what its call answers. Assumes nothing.
+-- `instants::instructions::call` meets its contract: it comes to what its call answers.
 use mathlib.Core.Path.{_∙_}
 use borrow.Author.Needs.{needs}
 use Rattle.instants.proofs.Declared.{programIn}

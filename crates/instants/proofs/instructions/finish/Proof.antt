@@ -1,4 +1,4 @@
--- `instants::instructions::finish` meets its contract: it is refused by its one test, or the instant is over. Assumes nothing.
+-- `instants::instructions::finish` meets its contract: it is refused by its one test, or the instant is over.
 use mathlib.Core.Path.{_∙_}
 use borrow.Author.Needs.{needs}
 use Rattle.instants.proofs.Steps.{return-refused, return-executed}

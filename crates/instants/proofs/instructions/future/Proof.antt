@@ -1,4 +1,4 @@
--- `instants::instructions::future` meets its contract: it is refused by its one test, or a block begins here. Assumes nothing.
+-- `instants::instructions::future` meets its contract: it is refused by its one test, or a block begins here.
 use mathlib.Core.Path.{_∙_}
 use borrow.Author.Needs.{needs}
 use Rattle.instants.proofs.Steps.{future-refused, future-executed}

@@ -1,4 +1,4 @@
--- `instants::instructions::jump` meets its contract: it is refused by its one test, or goes on at its address. Assumes nothing.
+-- `instants::instructions::jump` meets its contract: it is refused by its one test, or goes on at its address.
 use mathlib.Core.Path.{_∙_}
 use borrow.Author.Needs.{needs}
 use Rattle.instants.proofs.Steps.{jump-refused, jump-executed}

@@ -1,4 +1,4 @@
--- `instants::instructions::moved` meets its contract: the next address does not wrap. Assumes nothing.
+-- `instants::instructions::moved` meets its contract: the next address does not wrap.
 use borrow.Author.Needs.{needs}
 use Rattle.instants.proofs.Steps.{moved-on}
 use Rattle.instants.proofs.instructions.moved.Statement.{statement}

@@ -1,5 +1,5 @@
 -- `instants::instructions::step` meets its contract: past the end stands nothing; else the number, the first of the three words at
--- the address, says which instruction is executed. Assumes nothing.
+-- the address, says which instruction is executed.
 use Prim.Native.Nat.{ℕ, _/_, _<_}
 use mathlib.Core.Path.{_≡_, refl, _∙_}
 use native.Mathlib.Omega.{arith}

@@ -1,4 +1,4 @@
--- `intake::bytes::line_end` meets its contract: the line is taken as its number, and a new one begins. Assumes nothing.
+-- `intake::bytes::line_end` meets its contract: the line is taken as its number, and a new one begins.
 use mathlib.Core.Path.{ap, _∙_}
 use denote.Ref.{now}
 use borrow.Author.Needs.{needs}

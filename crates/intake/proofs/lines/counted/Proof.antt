@@ -1,5 +1,4 @@
 -- `intake::lines::counted` meets its contract: the cases of `countedOf`, and the numbers of a table within its limit fit.
--- Assumes nothing.
 use Prim.Native.Nat.{_*_}
 use mathlib.Core.Path.{sym, ap, ap₂, _∙_}
 use native.Mathlib.Omega.{arith}

@@ -1,4 +1,4 @@
--- `intake::lines::stored` meets its contract: a number is put at the next free place, if there is one. Assumes nothing.
+-- `intake::lines::stored` meets its contract: a number is put at the next free place, if there is one.
 use mathlib.Core.Path.{refl}
 use borrow.Author.Needs.{needs}
 use borrow.Author.Tests.{lt-ltb, le-ltb}

@@ -1,4 +1,4 @@
--- `intake::shape::limit` meets its contract: the list has the limits of the ten shapes. Assumes nothing.
+-- `intake::shape::limit` meets its contract: the list has the limits of the ten shapes.
 use mathlib.Core.Path.{sym, ap}
 use borrow.Author.Needs.{needs}
 use Rattle.text.specs.Input.{Shape}

@@ -1,4 +1,4 @@
--- `intake::shape::width` meets its contract: the list has the widths of the ten shapes. Assumes nothing.
+-- `intake::shape::width` meets its contract: the list has the widths of the ten shapes.
 use mathlib.Core.Path.{sym, ap}
 use borrow.Author.Needs.{needs}
 use Rattle.text.specs.Input.{Shape}

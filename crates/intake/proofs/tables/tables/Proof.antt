@@ -1,4 +1,4 @@
--- `intake::tables::tables` meets its contract: each of the ten is put in its place. Assumes nothing.
+-- `intake::tables::tables` meets its contract: each of the ten is put in its place.
 use Prim.Native.Nat.{ℕ, _-_, _<_}
 use mathlib.Core.Path.{_≡_, refl, ap, _∙_}
 use mathlib.Core.List.{List}
@@ -15,7 +15,7 @@ use Rattle.intake.specs.Heard.{piece}
 use Rattle.intake.proofs.tables.tables.Statement.{statement}
 use Rattle.intake.proofs.tables.tables.Tie as tie
 
--- the first k are in their places
+-- the first k tables are in their places
 abbrev Placed : List ℤ → List ℕ → List ℕ → List (RefT (List ℤ)) → ℕ → Type 0
 Placed room begins lens all k = (j : ℕ) → j < k → tableAt all j ≡ take (getD lens j 0) (drop (getD begins j 0) room)
 

@@ -1,4 +1,4 @@
--- `layout::counts::count` meets its contract: three tables, three counts. Assumes nothing.
+-- `layout::counts::count` meets its contract: three tables, three counts.
 use mathlib.Core.Path.{refl}
 use borrow.Author.Needs.{needs}
 use Rattle.layout.proofs.counts.count.Statement.{statement}

@@ -1,4 +1,4 @@
--- `layout::counts::mode_size` meets its contract: the sizes of the units so far, each no more than the most. Assumes nothing.
+-- `layout::counts::mode_size` meets its contract: the sizes of the units so far, each no more than the most.
 use Prim.Native.Nat.{_-_}
 use native.Mathlib.Omega.{arith}
 use borrow.Author.Needs.{needs}

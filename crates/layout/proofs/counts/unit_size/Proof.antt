@@ -1,4 +1,4 @@
--- `layout::counts::unit_size` meets its contract: of few rows few are due. Assumes nothing.
+-- `layout::counts::unit_size` meets its contract: of few rows few are due.
 use mathlib.Core.Path.{sym, subst, ap, _∙_}
 use borrow.Author.Needs.{needs}
 use Rattle.layout.specs.Few.{Sized}

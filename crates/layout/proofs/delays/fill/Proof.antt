@@ -1,88 +1,131 @@
 -- `layout::delays::fill` meets its contract: after m modes the marks are those of the first m, and the next one begins behind them.
--- Assumes nothing.
-use Prim.Native.Nat.{ℕ, _-_, _≤_, _<_}
-use mathlib.Core.Path.{_≡_, sym, ap, _∙_}
+use Prim.Native.Nat.{ℕ, _+_, _-_, _≤_, _<_}
+use mathlib.Core.Path.{_≡_, sym, subst, ap, _∙_}
+use mathlib.Core.Bool.{false}
+use mathlib.Core.List.{List}
 use native.Mathlib.Omega.{arith}
 use lib.IntN.{ℤ, pos}
 use lib.ListN.{length, length-set}
 use borrow.Author.Needs.{needs}
-use Rattle.cells.specs.Cell.{rowsIn}
+use borrow.Author.Tests.{ltb-true, ltb-false}
 use Rattle.cells.specs.Limits.{maxPorts, maxModes}
-use Rattle.program.specs.Tables.{tableAt, modesAt, tablesIn, modeWidth, modeCount}
+use Rattle.cells.proofs.Names.{name-small, next-name, plus-one}
+use Rattle.program.specs.Tables.{Tables, tablesIn, modeCount}
 use Rattle.program.specs.Sets.{sensorRows}
 use Rattle.program.specs.Units.{units}
 use Rattle.program.proofs.Decoded.{sensors-rows}
+use Rattle.rules.specs.Shape.{shapeBad}
 use Rattle.layout.specs.Layout.{unitCounts, sizeIn}
 use Rattle.layout.specs.Delays.{unitsMarked, ticksIn, modesMarked}
-use Rattle.layout.proofs.Limits.{told-most, few-rows, few-modes, few-sensors}
+use Rattle.layout.proofs.Limits.{told-most, few-rows, few-ports, few-modes, few-sensors}
 use Rattle.layout.proofs.Laid.{start-near}
 use Rattle.layout.proofs.Walked.{Walking, walked-none, walked-more, walked-all, walked-keeps, walked-length}
 use Rattle.layout.proofs.Marks.{listing-marked}
 use Rattle.layout.proofs.delays.fill.Statement.{statement}
 use Rattle.layout.proofs.delays.fill.Tie as tie
 
+-- what the modes before mode m have marked, and where mode m begins
+abbrev Marked : Tables → ℕ → List ℕ → ℕ → ℕ → List ℕ → Type 0
+Marked T sensors table m at =
+    Walking (sizeIn T sensors) (λ m at table. unitsMarked (unitCounts T sensors m) (ticksIn T m) at (units T m) table) 1 (modeCount T) table m at
+
 abbrev Inv-loop : tie.InvT-loop
-Inv-loop tables delays₀ sensors n at₀ m₀ delays at m =
-    (start : ℤ) → let T = tablesIn tables start in
-    Walking (sizeIn T sensors) (λ m at table. unitsMarked (unitCounts T sensors m) (ticksIn T m) at (units T m) table) 1 (modeCount T) delays₀ m at delays
+Inv-loop tables delays₀ sensors modes at₀ m₀ delays at m = (start : ℤ) → Marked (tablesIn tables start) sensors delays₀ (m .0) at delays
 
 abbrev μ-loop : tie.MeasureT-loop
-μ-loop tables delays₀ sensors n at₀ m₀ delays at m = rowsIn modeWidth (tableAt tables modesAt) - m
+μ-loop tables delays₀ sensors modes at₀ m₀ delays at m = modeCount (tablesIn tables (pos 0)) - m .0
+
+-- the tables that were lent, whatever the start mode; they have their shape
+abbrev lent : tie.Start Inv-loop μ-loop → Tables
+lent s = tablesIn (s .args .tables .now) (pos 0)
+
+shape : (s : tie.Start Inv-loop μ-loop) → shapeBad (lent s) ≡ false
+shape s = s .pre (pos 0)
+
+-- where the function began, from its loop
+abbrev start-of : tie.At-loop Inv-loop μ-loop → tie.Start Inv-loop μ-loop
+start-of c = c .before .before .before .before .before .before
+
+-- a mode that is declared is below the number of modes
+below : (c : tie.Then1 Inv-loop μ-loop) → c .before .before .loop .m .0 < modeCount (lent (start-of (c .before .before)))
+below c = ltb-true _ _ (sym (c .before .declared .ensures) ∙ c .if1 .taken)
+
+-- the mode of a turn of the loop, from its end
+abbrev turn : tie.After-next Inv-loop μ-loop → tie.Then1 Inv-loop μ-loop
+turn c = c .before .before .before .before .before
+
+-- the next mode has the next number
+step : (c : tie.After-next Inv-loop μ-loop) → c .next .result .0 ≡ turn c .before .before .loop .m .0 + 1
+step c =
+    let s = start-of (turn c .before .before) in
+    c .next .ensures ∙ next-name _ (below (turn c)) (omega (arith, few-modes (lent s) (shape s))) ∙ sym (plus-one _)
 
 element-copy-out-sensors : tie.Need-element-copy-out-sensors Inv-loop μ-loop
 element-copy-out-sensors c = search needs
 
 sensors-requires : tie.Need-sensors-requires Inv-loop μ-loop
-sensors-requires c κs = search needs
+sensors-requires c κs = let s = c .before .before in few-ports (lent s) (shape s)
 
-element-copy-out-n : tie.Need-element-copy-out-n Inv-loop μ-loop
-element-copy-out-n c = search needs
+element-copy-out-modes : tie.Need-element-copy-out-modes Inv-loop μ-loop
+element-copy-out-modes c = search needs
+
+of-requires : tie.Need-of-requires Inv-loop μ-loop
+of-requires c κs = search needs
 
 loop-holds : tie.Need-loop-holds Inv-loop μ-loop
-loop-holds c start = walked-none _ _ _ _ _
+loop-holds c start =
+    let s = c .before .before .before .before .before in
+    subst (λ (m : ℕ). Marked (tablesIn (s .args .tables .now) start) (c .before .before .sensors .result) (s .args .delays .now) m 1 (s .args .delays .now))
+    (sym (c .of .ensures ∙ name-small 0 (omega arith)))
+    (walked-none _ _ _ _ _)
+
+declared-requires : tie.Need-declared-requires Inv-loop μ-loop
+declared-requires c κs = search needs
 
 mark-mode-requires : tie.Need-mark-mode-requires Inv-loop μ-loop
 mark-mode-requires c κs =
-    let s = c .before .before .before .before .before .before in
-    let shape = s .pre (pos 0) in
-    let T = tablesIn (s .args .tables .now) (pos 0) in
-    let l = c .before .before .loop in
-    let sensors = c .before .before .before .sensors in
-    let few : sensors .result ≤ maxPorts = told-most (sensors .ensures) (few-sensors T shape) in
-    let small : l .m < maxModes = omega (arith, c .before .loop-test .taken, few-modes T shape) in
-    (s .pre, (few, (small, start-near T (sensors .result) (few-rows T shape) few (l .m) small (l .inv (pos 0) .ends))))
+    let l = c .before .before .before in
+    let s = start-of l in
+    let T = lent s in
+    let sensors = l .before .before .before .sensors in
+    let few : sensors .result ≤ maxPorts = told-most (sensors .ensures) (few-sensors T (shape s)) in
+    let small : l .loop .m .0 < maxModes = omega (arith, below (c .before), few-modes T (shape s)) in
+    (s .pre, (few, start-near T (sensors .result) (few-rows T (shape s)) few (l .loop .m .0) small (l .loop .inv (pos 0) .ends)))
 
-add-m : tie.Need-add-m Inv-loop μ-loop
-add-m c =
-    let s = c .before .before .before .before .before .before .before .before .before in
-    record { fits = omega (arith, c .before .before .before .before .loop-test .taken, few-modes (tablesIn (s .args .tables .now) (pos 0)) (s .pre (pos 0))) }
+next-requires : tie.Need-next-requires Inv-loop μ-loop
+next-requires c κs = search needs
 
 loop-less : tie.Need-loop-less Inv-loop μ-loop
-loop-less c = search needs
+loop-less c = omega (arith, step c, below (turn c))
 
 loop-again : tie.Need-loop-again Inv-loop μ-loop
 loop-again c start =
-    let mode = c .before .before .mark-mode in
-    walked-more _ _ _ _ _ _ _ _ _ _ (c .before .before .before .before .loop-test .taken) (mode .ensures .1 start) (mode .ensures .0 start)
-    (c .before .before .before .before .before .loop .inv start)
+    let mode = c .before .before .before .mark-mode in
+    let l = turn c .before .before in
+    let s = start-of l in
+    subst (λ (m : ℕ). Marked (tablesIn (s .args .tables .now) start) (l .before .before .before .sensors .result) (s .args .delays .now) m (mode .result) (mode .last .1 .1 .1 .1 .0))
+    (sym (step c))
+    (walked-more _ _ _ _ _ _ _ _ _ _ (below (turn c)) (mode .ensures .1 start) (mode .ensures .0 start) (l .loop .inv start))
 
 same-length : tie.Need-same-length Inv-loop μ-loop
 same-length c =
-    let T = tablesIn (c .before .before .before .before .before .args .tables .now) (pos 0) in
-    walked-length _ _ _ (c .before .loop .inv (pos 0)) (λ m at t. walked-keeps _ _ at (λ k b r. length-set r _ _) (units T m) t)
+    let T = lent (start-of (c .before .before)) in
+    walked-length _ _ _ (c .before .before .loop .inv (pos 0)) (λ m at t. walked-keeps _ _ at (λ k b r. length-set r _ _) (units T m) t)
 
 returns : tie.Need-returns Inv-loop μ-loop
 returns c =
-    let s = c .before .before .before .before .before in
-    let lent = s .args .tables .now in
+    let l = c .before .before in
+    let s = start-of l in
+    let tables = s .args .tables .now in
     let table = s .args .delays .now in
-    let counted : (start : ℤ) → let T = tablesIn lent start in
-    c .before .loop .delays ≡ modesMarked T (length (sensorRows (T .ports) (λ p. p))) (modeCount T) table =
+    let past : modeCount (lent s) ≤ l .loop .m .0 = ltb-false _ _ (sym (c .before .declared .ensures) ∙ c .if1 .left) in
+    let counted : (start : ℤ) → let T = tablesIn tables start in
+    l .loop .delays ≡ modesMarked T (length (sensorRows (T .ports) (λ p. p))) (modeCount T) table =
     λ start.
-    let T = tablesIn lent start in
-    walked-all _ _ _ _ _ _ _ _ (c .loop-test .left) (c .before .loop .inv start) .0
-    ∙ ap (λ (n : ℕ). modesMarked T n (modeCount T) table) (c .before .before .sensors .ensures) in
-    (counted, λ start v. counted start ∙ sym (listing-marked (tablesIn lent start) _ (ap length (sym (sensors-rows (tablesIn lent start)))) v table))
+    let T = tablesIn tables start in
+    walked-all _ _ _ _ _ _ _ _ past (l .loop .inv start) .0
+    ∙ ap (λ (n : ℕ). modesMarked T n (modeCount T) table) (l .before .before .before .sensors .ensures) in
+    (counted, λ start v. counted start ∙ sym (listing-marked (tablesIn tables start) _ (ap length (sym (sensors-rows (tablesIn tables start)))) v table))
 
 pub fill-spec : {M : Type 1} → statement M
 fill-spec =
@@ -92,10 +135,12 @@ fill-spec =
     μ-loop
     element-copy-out-sensors
     sensors-requires
-    element-copy-out-n
+    element-copy-out-modes
+    of-requires
     loop-holds
+    declared-requires
     mark-mode-requires
-    add-m
+    next-requires
     loop-less
     loop-again
     same-length

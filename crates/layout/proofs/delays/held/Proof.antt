@@ -1,4 +1,4 @@
--- `layout::delays::held` meets its contract: two cases. Assumes nothing.
+-- `layout::delays::held` meets its contract: two cases.
 use borrow.Author.Tests.{le-leb, lt-leb}
 use Rattle.layout.specs.Delays.{heldPeriod}
 use Rattle.layout.proofs.delays.held.Statement.{statement}

@@ -1,4 +1,4 @@
--- `layout::delays::mark_block` meets its contract: the `future` of a block of few instructions is not far. Assumes nothing.
+-- `layout::delays::mark_block` meets its contract: the `future` of a block of few instructions is not far.
 use Prim.Native.Nat.{ℕ, _+_}
 use mathlib.Core.Path.{ap, _∙_}
 use lib.ListN.{set}

@@ -1,5 +1,5 @@
 -- `layout::delays::mark_units` meets its contract: after k units the marks are those of the first k, and the next block begins behind
--- them. Assumes nothing.
+-- them.
 use Prim.Native.Nat.{_+_, _-_}
 use mathlib.Core.Path.{sym, subst, ap, _∙_}
 use native.Mathlib.Nat.{le-trans}

@@ -1,4 +1,4 @@
--- `machine_cases::advance::ticks` is safe and ends: the buffer keeps its length. Assumes nothing.
+-- `machine_cases::advance::ticks` is safe and ends: the buffer keeps its length.
 use Prim.Native.Nat.{_-_}
 use mathlib.Core.Path.{_≡_}
 use native.Mathlib.Omega.{arith}

@@ -1,4 +1,4 @@
--- `machine_cases::lines::counts` is safe and ends. Assumes nothing.
+-- `machine_cases::lines::counts` is safe and ends.
 use Prim.Native.Nat.{_-_}
 use lib.ListN.{length}
 use borrow.Author.Needs.{needs}

@@ -1,4 +1,4 @@
--- `machine_cases::long::ticks` is safe and ends. Assumes nothing.
+-- `machine_cases::long::ticks` is safe and ends.
 use Prim.Native.Nat.{_-_}
 use borrow.Author.Needs.{needs}
 use Rattle.machine_cases.proofs.long.ticks.Statement.{statement}

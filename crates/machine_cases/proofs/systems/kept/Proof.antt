@@ -1,4 +1,4 @@
--- `machine_cases::systems::kept` is safe: no more words are kept than there are. Assumes nothing.
+-- `machine_cases::systems::kept` is safe: no more words are kept than there are.
 use mathlib.Core.Path.{sym}
 use native.Mathlib.Omega.{arith}
 use lib.Seq.{length-take-le}

@@ -1,4 +1,4 @@
--- `operation::judged::bad_code` meets its contract: the length says both. Assumes nothing.
+-- `operation::judged::bad_code` meets its contract: the length says both.
 use mathlib.Core.Path.{refl}
 use Rattle.rules.specs.Shape.{badSlice}
 use Rattle.operation.proofs.judged.bad_code.Statement.{statement}

@@ -1,5 +1,4 @@
 -- `operation::judged::shape_bad` meets its contract: the tables' shape, then that of code, schedule and what is lent to a tick.
--- Assumes nothing.
 use mathlib.Core.Bool.{_||_}
 use borrow.Author.Needs.{needs}
 use Rattle.cells.specs.Limits.{maxPorts, maxTasks}

@@ -1,4 +1,4 @@
--- `program::due::due_rows` meets its contract: what was counted and what is left are all. Assumes nothing.
+-- `program::due::due_rows` meets its contract: what was counted and what is left are all.
 use Prim.Native.Nat.{_+_, _-_}
 use mathlib.Core.Path.{sym, subst, _∙_}
 use mathlib.Core.Logic.{⊎-elim}

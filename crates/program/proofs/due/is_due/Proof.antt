@@ -1,4 +1,4 @@
--- `program::due::is_due` meets its contract: a quotient by 0 is 0, and a remainder by 0 the number itself. Assumes nothing.
+-- `program::due::is_due` meets its contract: a quotient by 0 is 0, and a remainder by 0 the number itself.
 use mathlib.Core.Path.{refl}
 use native.Mathlib.Nat.{div-zero, mod-zero}
 use Rattle.program.specs.Units.{due}

@@ -1,4 +1,4 @@
--- `program::due::row_due` meets its contract: the row says mode and frequency. Assumes nothing.
+-- `program::due::row_due` meets its contract: the row says mode and frequency.
 use mathlib.Core.Path.{refl}
 use Rattle.program.specs.Units.{rowDue}
 use borrow.Author.Needs.{needs}
@@ -11,20 +11,15 @@ mode-requires c κs = search needs
 field-requires : tie.Need-field-requires
 field-requires c κs = search needs
 
-index-requires : tie.Need-index-requires
-index-requires c κs = search needs
-
-index-requires-2 : tie.Need-index-requires-2
-index-requires-2 c κs = search needs
+is-requires : tie.Need-is-requires
+is-requires c κs = search needs
 
 is-due-requires : tie.Need-is-due-requires
 is-due-requires c κs = search needs
 
 returns : tie.Need-returns
 unfolding rowDue
-returns c = simp (c .is-due .ensures, c .before .index2 .ensures, c .before .before .index .ensures, c .before .before .before .field .ensures, c .before .before .before .before .mode .ensures) refl
+returns c = simp (c .is-due .ensures, c .before .is .ensures, c .before .before .field .ensures, c .before .before .before .mode .ensures) refl
 
 pub row-due-spec : {M : Type 1} → statement M
-row-due-spec =
-    tie.close
-    (tie.spec mode-requires field-requires index-requires index-requires-2 is-due-requires returns)
+row-due-spec = tie.close (tie.spec mode-requires field-requires is-requires is-due-requires returns)

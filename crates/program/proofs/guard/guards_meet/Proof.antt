@@ -1,4 +1,4 @@
--- `program::guard::guards_meet` meets its contract: by the kinds of the two guards. Assumes nothing.
+-- `program::guard::guards_meet` meets its contract: by the kinds of the two guards.
 use Rattle.program.proofs.Guards.{always-meets, meets-always, intervals-meet}
 use mathlib.Core.Path.{_≡_, sym, ap₂, _∙_}
 use mathlib.Core.Bool.{Bool, not, _&&_, _||_}

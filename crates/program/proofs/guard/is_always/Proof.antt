@@ -1,16 +1,13 @@
--- `program::guard::is_always` meets its contract: the column says the kind. Assumes nothing.
+-- `program::guard::is_always` meets its contract: the column says the kind.
 use borrow.Author.Needs.{needs}
 use Rattle.program.proofs.guard.is_always.Statement.{statement}
 use Rattle.program.proofs.guard.is_always.Tie as tie
 
-index-requires : tie.Need-index-requires
-index-requires c κs = search needs
-
-field-requires : tie.Need-field-requires
-field-requires c κs = search needs
+guard-requires : tie.Need-guard-requires
+guard-requires c κs = search needs
 
 returns : tie.Need-returns
-returns c T e = simp (c .field .ensures, c .before .index .ensures, e)
+returns c T e = simp (c .guard .ensures, e)
 
 pub is-always-spec : {M : Type 1} → statement M
-is-always-spec = tie.close (tie.spec index-requires field-requires returns)
+is-always-spec = tie.close (tie.spec guard-requires returns)

@@ -1,17 +1,14 @@
--- `program::guard::is_interval` meets its contract: the column says the kind. Assumes nothing.
+-- `program::guard::is_interval` meets its contract: the column says the kind.
 use mathlib.Core.Path.{refl}
 use borrow.Author.Needs.{needs}
 use Rattle.program.proofs.guard.is_interval.Statement.{statement}
 use Rattle.program.proofs.guard.is_interval.Tie as tie
 
-index-requires : tie.Need-index-requires
-index-requires c κs = search needs
-
-field-requires : tie.Need-field-requires
-field-requires c κs = search needs
+guard-requires : tie.Need-guard-requires
+guard-requires c κs = search needs
 
 returns : tie.Need-returns
-returns c T e = simp (c .field .ensures, c .before .index .ensures, e) refl
+returns c T e = simp (c .guard .ensures, e) refl
 
 pub is-interval-spec : {M : Type 1} → statement M
-is-interval-spec = tie.close (tie.spec index-requires field-requires returns)
+is-interval-spec = tie.close (tie.spec guard-requires returns)

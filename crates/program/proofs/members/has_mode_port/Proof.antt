@@ -1,4 +1,4 @@
--- `program::members::has_mode_port` meets its contract: the search asks the test of each row. Assumes nothing.
+-- `program::members::has_mode_port` meets its contract: the search asks the test of each row.
 use Prim.Native.Nat.{_-_}
 use mathlib.Core.Path.{_≡_, sym, _∙_}
 use borrow.Author.Needs.{needs}

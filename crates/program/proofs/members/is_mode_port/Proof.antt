@@ -1,4 +1,4 @@
--- `program::members::is_mode_port` meets its contract: the search of all rows. Assumes nothing.
+-- `program::members::is_mode_port` meets its contract: the search of all rows.
 use Rattle.cells.proofs.Rows.{any-rows}
 use mathlib.Core.Path.{sym, _∙_}
 use Rattle.program.specs.Sets.{isModePort}

@@ -1,4 +1,4 @@
--- `program::members::is_output` meets its contract: the search is made only where the kind is right. Assumes nothing.
+-- `program::members::is_output` meets its contract: the search is made only where the kind is right.
 use mathlib.Core.Path.{sym, _∙_}
 use Rattle.program.specs.Sets.{isOutput}
 use borrow.Author.Needs.{needs}

@@ -1,4 +1,4 @@
--- `program::members::mode_port_at` meets its contract: the row says both numbers. Assumes nothing.
+-- `program::members::mode_port_at` meets its contract: the row says both numbers.
 use Rattle.program.specs.Sets.{modePortAt}
 use borrow.Author.Needs.{needs}
 use Rattle.program.proofs.members.mode_port_at.Statement.{statement}
@@ -10,30 +10,17 @@ mode-requires c κs = search needs
 port-requires : tie.Need-port-requires
 port-requires c κs = search needs
 
-index-requires : tie.Need-index-requires
-index-requires c κs = search needs
+is-requires : tie.Need-is-requires
+is-requires c κs = search needs
 
-index-requires-2 : tie.Need-index-requires-2
-index-requires-2 c κs = search needs
-
-index-requires-3 : tie.Need-index-requires-3
-index-requires-3 c κs = search needs
-
-index-requires-4 : tie.Need-index-requires-4
-index-requires-4 c κs = search needs
+is-requires-2 : tie.Need-is-requires-2
+is-requires-2 c κs = search needs
 
 returns : tie.Need-returns
 unfolding modePortAt
-returns c T e = simp (c .before .before .before .before .port .ensures, c .before .before .before .before .before .mode .ensures, c .index4 .ensures, c .before .index3 .ensures, c .before .before .index2 .ensures, c .before .before .before .index .ensures, e)
+returns c T e = simp (c .is2 .ensures, c .before .is .ensures, c .before .before .port .ensures, c .before .before .before .mode .ensures, e)
 
 pub mode-port-at-spec : {M : Type 1} → statement M
 mode-port-at-spec =
     tie.close
-    (tie.spec
-    mode-requires
-    port-requires
-    index-requires
-    index-requires-2
-    index-requires-3
-    index-requires-4
-    returns)
+    (tie.spec mode-requires port-requires is-requires is-requires-2 returns)

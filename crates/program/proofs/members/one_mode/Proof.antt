@@ -1,4 +1,4 @@
--- `program::members::one_mode` meets its contract: the two rows say their modes. Assumes nothing.
+-- `program::members::one_mode` meets its contract: the two rows say their modes.
 use mathlib.Core.Path.{refl}
 use borrow.Author.Needs.{needs}
 use Rattle.program.proofs.members.one_mode.Statement.{statement}
@@ -10,15 +10,11 @@ mode-requires c κs = search needs
 mode-requires-2 : tie.Need-mode-requires-2
 mode-requires-2 c κs = search needs
 
-index-requires : tie.Need-index-requires
-index-requires c κs = search needs
-
-index-requires-2 : tie.Need-index-requires-2
-index-requires-2 c κs = search needs
+is-requires : tie.Need-is-requires
+is-requires c κs = search needs
 
 returns : tie.Need-returns
-returns c = simp (c .index2 .ensures, c .before .index .ensures, c .before .before .mode2 .ensures, c .before .before .before .mode .ensures) refl
+returns c = simp (c .is .ensures, c .before .mode2 .ensures, c .before .before .mode .ensures) refl
 
 pub one-mode-spec : {M : Type 1} → statement M
-one-mode-spec =
-    tie.close (tie.spec mode-requires mode-requires-2 index-requires index-requires-2 returns)
+one-mode-spec = tie.close (tie.spec mode-requires mode-requires-2 is-requires returns)

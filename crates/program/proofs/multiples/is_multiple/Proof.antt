@@ -1,4 +1,4 @@
--- `program::multiples::is_multiple` meets its contract: the three searches. Assumes nothing.
+-- `program::multiples::is_multiple` meets its contract: the three searches.
 use Rattle.program.specs.Units.{isMultiple}
 use mathlib.Core.Path.{refl}
 use borrow.Author.Needs.{needs}

@@ -1,4 +1,4 @@
--- `program::multiples::misses` meets its contract: a remainder by 0 is the number itself. Assumes nothing.
+-- `program::multiples::misses` meets its contract: a remainder by 0 is the number itself.
 use native.Mathlib.Nat.{mod-zero}
 use Rattle.program.specs.Units.{misses}
 use borrow.Author.Needs.{needs}

@@ -1,4 +1,4 @@
--- `program::multiples::some_row_misses` meets its contract: the search asks the test of each row. Assumes nothing.
+-- `program::multiples::some_row_misses` meets its contract: the search asks the test of each row.
 use Prim.Native.Nat.{_-_}
 use mathlib.Core.Path.{sym, _∙_}
 use native.Mathlib.Nat.{div-le-self}

@@ -1,4 +1,4 @@
--- `program::multiples::units` meets its contract: the search tries 1, 2, .. up to the limit. Assumes nothing.
+-- `program::multiples::units` meets its contract: the search tries 1, 2, .. up to the limit.
 use Prim.Native.Nat.{ℕ, suc, _-_}
 use mathlib.Core.Path.{_≡_, sym, ap, _∙_}
 use native.Mathlib.Numerals.{add-one}

@@ -1,4 +1,4 @@
--- `program::rows::count` meets its contract: the widths by the place are those of the definition. Assumes nothing.
+-- `program::rows::count` meets its contract: the widths by the place are those of the definition.
 use mathlib.Core.Path.{sym}
 use borrow.Author.Needs.{needs}
 use Rattle.program.proofs.Places.{rows-at, width-some, rows-past}

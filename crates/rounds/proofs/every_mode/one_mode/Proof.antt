@@ -1,11 +1,9 @@
--- `rounds::every_mode::one_mode` meets its contract: a mode of so small a number is named by it. Assumes nothing.
+-- `rounds::every_mode::one_mode` meets its contract: its units and their length are those of the tables.
 use Prim.Native.Nat.{ℕ, _/_, _≤_}
 use mathlib.Core.Path.{_≡_, refl, ap, _∙_}
 use native.Mathlib.Nat.{div-le-self, le-trans}
-use native.Mathlib.Omega.{arith}
 use borrow.Author.Needs.{needs}
 use Rattle.cells.specs.Limits.{maxPeriod}
-use Rattle.cells.proofs.Names.{name-small}
 use Rattle.program.specs.Tables.{tablesIn}
 use Rattle.program.specs.Units.{units}
 use Rattle.layout.specs.declared.counts.Counts.{Counts}
@@ -26,48 +24,43 @@ element-copy-out-updates c = search needs
 element-copy-out-switches : tie.Need-element-copy-out-switches
 element-copy-out-switches c = search needs
 
-of-requires : tie.Need-of-requires
-of-requires c κs = search needs
-
 units-requires : tie.Need-units-requires
 units-requires c κs = search needs
 
-element-copy-out-field : tie.Need-element-copy-out-field
-element-copy-out-field c = search needs
+element-copy-out-period : tie.Need-element-copy-out-period
+element-copy-out-period c = search needs
 
-field-requires : tie.Need-field-requires
-field-requires c κs = search needs
+period-requires : tie.Need-period-requires
+period-requires c κs = search needs
 
 div-ticks : tie.Need-div-ticks
-div-ticks c = units-told (c .before .before .before .of .result .0) (c .before .before .units .ensures) .0
+div-ticks c = units-told _ (c .before .before .units .ensures) .0
 
 one-round-requires : tie.Need-one-round-requires
 one-round-requires c κs =
-    let s = c .before .before .before .before .before .before .before in
+    let s = c .before .before .before .before .before .before in
     let p = s .pre .1 .1 in
-    let few : c .field .result ≤ maxPeriod = told-most (c .field .ensures) (p .0 (s .args .m) (p .1 .0)) in (
+    let few : c .period .result ≤ maxPeriod = told-most (c .period .ensures) (p .0 (s .args .m .0) (p .1 .0)) in (
       s .pre .0,
       (
         s .pre .1 .0,
         (
-          units-told (c .before .before .before .of .result .0) (c .before .before .units .ensures) .1,
-          (le-trans (div-le-self _ _) few, p .1 .1 .1),
+          units-told _ (c .before .before .units .ensures) .1,
+          (le-trans (div-le-self _ _) few, p .1 .1),
         ),
       ),
     )
 
 returns : tie.Need-returns
 returns c start =
-    let s = c .before .before .before .before .before .before .before .before in
+    let s = c .before .before .before .before .before .before .before in
     let a = s .args in
     let T = tablesIn (a .tables .now) start in
-    let own = c .before .before .before .before .of in
-    let named : own .result .0 ≡ a .m = own .ensures ∙ name-small _ (omega (arith, s .pre .1 .1 .1 .1 .0)) in
-    let n = c .before .before .before .units .ensures T refl refl refl ∙ ap (units T) named in
+    let n = c .before .before .before .units .ensures T refl refl refl in
     c .one-round .ensures start
     ∙ (λ j.
-    let counts : ℕ → Counts = countsIn (T .invocations) (T .updates) (T .switches) (a .sensors) (named j) (n j) in
-    let course = courseIn (T .tasks) (T .invocations) (a .windows .now) (a .supplier) (named j) (n j) (c .before .field .ensures j / n j) in
+    let counts : ℕ → Counts = countsIn (T .invocations) (T .updates) (T .switches) (a .sensors) (a .m .0) (n j) in
+    let course = courseIn (T .tasks) (T .invocations) (a .windows .now) (a .supplier) (a .m .0) (n j) (c .before .period .ensures j / n j) in
     rounded (worstBreak (course (blockIn (a .part .now) (a .supplier) counts (a .first))) nothing) (blockAt counts (a .first) (n j))
     (rowBefore (a .part .now) (a .supplier) counts (a .first) (a .from) (n j)))
 
@@ -78,10 +71,9 @@ one-mode-spec =
     element-copy-out-invocations
     element-copy-out-updates
     element-copy-out-switches
-    of-requires
     units-requires
-    element-copy-out-field
-    field-requires
+    element-copy-out-period
+    period-requires
     div-ticks
     one-round-requires
     returns)

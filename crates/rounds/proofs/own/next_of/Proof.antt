@@ -1,4 +1,4 @@
--- `rounds::own::next_of` meets its contract: unit 0 comes after the last one. Assumes nothing.
+-- `rounds::own::next_of` meets its contract: unit 0 comes after the last one.
 use Prim.Native.Nat.{ℕ, suc, _+_}
 use mathlib.Core.Path.{_≡_, sym, _∙_}
 use mathlib.Core.Bool.{true, false}
@@ -9,11 +9,11 @@ use Rattle.program.specs.Program.{nextOf}
 use Rattle.rounds.proofs.own.next_of.Statement.{statement}
 use Rattle.rounds.proofs.own.next_of.Tie as tie
 
--- unit k is the last one
+-- where unit k is the last one, unit 0 comes after it
 last : (u k : ℕ) → k + 1 ≡ u → 0 ≡ nextOf u k
 last u k e = let q = eq-eqb (suc k) u (sym (add-one k) ∙ e) in λ j. elim (sym q j) [ true ↦ 0 | false ↦ suc k ]
 
--- it is not
+-- where unit k is not the last one, unit k + 1 comes after it
 not-last : (u k : ℕ) → (k + 1 ≡ u → ⊥) → k + 1 ≡ nextOf u k
 not-last u k h =
     let q = ne-eqb (suc k) u (λ e. h (add-one k ∙ e)) in add-one k ∙ (λ j. elim (sym q j) [ true ↦ 0 | false ↦ suc k ])

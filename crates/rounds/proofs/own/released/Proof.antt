@@ -1,7 +1,8 @@
--- `rounds::own::released` meets its contract: what is left of the rows is still to be released. Assumes nothing.
+-- `rounds::own::released` meets its contract: what is left of the rows is still to be released.
 use Prim.Native.Nat.{_-_}
-use mathlib.Core.Path.{_∙_}
+use mathlib.Core.Path.{ap, _∙_}
 use mathlib.Core.Logic.{⊎-elim}
+use lib.ListN.{set}
 use borrow.Author.Needs.{needs}
 use Rattle.cells.specs.Cell.{rowsIn, fieldAt, namedAt}
 use Rattle.program.specs.Tables.{taskWidth, taskWorstColumn, invocationWidth, invocationTaskColumn}
@@ -27,8 +28,14 @@ own-due-requires c κs = search needs
 task-requires : tie.Need-task-requires Inv-loop μ-loop
 task-requires c κs = search needs
 
-begun-requires : tie.Need-begun-requires Inv-loop μ-loop
-begun-requires c κs = search needs
+slice-aggregate-put-left : tie.Need-slice-aggregate-put-left Inv-loop μ-loop
+slice-aggregate-put-left c = let many = c .before .before .before .before .before .loop .inv .many in search needs
+
+worst-requires : tie.Need-worst-requires Inv-loop μ-loop
+worst-requires c κs = search needs
+
+put-left-requires : tie.Need-put-left-requires Inv-loop μ-loop
+put-left-requires c κs = search needs
 
 add-i : tie.Need-add-i Inv-loop μ-loop
 add-i c = search needs
@@ -42,7 +49,8 @@ loop-again c =
     let below = c .before .before .loop-test .taken in
     let test = c .before .own-due .ensures in
     ⊎-elim
-    (λ w. releasing-one _ _ _ _ _ (l .i) below test (w .0 .taken) (w .1 .ensures) (w .3 ∙ w .2 .ensures) (l .inv))
+    (λ w. releasing-one _ _ _ _ _ (l .i) below test (w .0 .taken) (w .1 .ensures)
+    (w .6 ∙ w .4 .ensures ∙ ap (set (l .rest) (w .1 .result .0)) (w .3 .ensures)) (l .inv))
     (λ w. releasing-no _ _ _ _ _ (l .i) below test (w .0 .left) (w .1) (l .inv))
     (c .if1 .came)
 
@@ -58,7 +66,9 @@ released-spec =
     loop-holds
     own-due-requires
     task-requires
-    begun-requires
+    slice-aggregate-put-left
+    worst-requires
+    put-left-requires
     add-i
     loop-less
     loop-again

@@ -1,4 +1,4 @@
--- `rounds::own::unended` meets its contract: a task that has not ended is sought in what is left of the rows. Assumes nothing.
+-- `rounds::own::unended` meets its contract: a task that has not ended is sought in what is left of the rows.
 use Prim.Native.Nat.{_-_}
 use borrow.Author.Needs.{needs}
 use Rattle.cells.specs.Cell.{rowsIn, namedAt}
@@ -21,8 +21,8 @@ loop-holds c = seeking-none _ _ _ _
 task-requires : tie.Need-task-requires Inv-loop μ-loop
 task-requires c κs = search needs
 
-left-of-requires : tie.Need-left-of-requires Inv-loop μ-loop
-left-of-requires c κs = search needs
+left-requires : tie.Need-left-requires Inv-loop μ-loop
+left-requires c κs = search needs
 
 own-due-requires : tie.Need-own-due-requires Inv-loop μ-loop
 own-due-requires c κs = search needs
@@ -31,7 +31,7 @@ returns : tie.Need-returns Inv-loop μ-loop
 returns c =
     let l = c .before .before .before .before .before .loop in
     seeking-found _ _ _ _ (l .i) (l .inv) (c .before .before .before .before .loop-test .taken) (c .before .own-due .ensures)
-    (c .before .before .before .task .ensures) (c .before .before .left-of .ensures) (c .if1 .taken)
+    (c .before .before .before .task .ensures) (c .before .before .left .ensures) (c .if1 .taken)
 
 add-i : tie.Need-add-i Inv-loop μ-loop
 add-i c = search needs
@@ -43,7 +43,7 @@ loop-again : tie.Need-loop-again Inv-loop μ-loop
 loop-again c =
     let l = c .before .before .before .before .before .loop in
     seeking-more _ _ _ _ (l .i) (l .inv) (c .before .before .before .before .loop-test .taken) (c .before .own-due .ensures)
-    (c .before .before .before .task .ensures) (c .before .before .left-of .ensures) (c .if1 .left)
+    (c .before .before .before .task .ensures) (c .before .before .left .ensures) (c .if1 .left)
 
 returns-2 : tie.Need-returns-2 Inv-loop μ-loop
 returns-2 c = seeking-all _ _ _ _ (c .before .loop .i) (c .loop-test .left) (c .before .loop .inv)
@@ -56,7 +56,7 @@ unended-spec =
     μ-loop
     loop-holds
     task-requires
-    left-of-requires
+    left-requires
     own-due-requires
     returns
     add-i

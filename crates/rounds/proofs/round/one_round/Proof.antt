@@ -1,4 +1,4 @@
--- `rounds::round::one_round` meets its contract: what is left of the units is judged as the whole round. Assumes nothing.
+-- `rounds::round::one_round` meets its contract: what is left of the units is judged as the whole round.
 use Prim.Native.Nat.{_-_}
 use mathlib.Core.Path.{sym, subst}
 use native.Mathlib.Omega.{arith}

@@ -1,4 +1,4 @@
--- `rounds::units::one_unit` meets its contract: its ticks and terminations are told as the unit's end is defined. Assumes nothing.
+-- `rounds::units::one_unit` meets its contract: its ticks and terminations are told as the unit's end is defined.
 use Prim.Native.Nat.{ℕ, suc, _*_, _≤_}
 use mathlib.Core.Path.{ap}
 use native.Mathlib.Nat.{suc-mul}
@@ -18,7 +18,7 @@ abbrev run : tie.Start → Course
 run s =
     let a = s .args in courseIn (a .tasks .now) (a .invocations .now) (a .windows .now) (a .supplier) (a .m .0) (a .u) (a .ticks) (λ j. rowsOf (a .block .now))
 
--- where its unit ends
+-- the unit ends within the limits of a round
 near : (s : tie.Start) → suc (s .args .k) * s .args .ticks ≤ suc maxUnits * maxPeriod
 near s = ticks-most (s .pre .0) (s .pre .1 .0) (s .pre .1 .1)
 

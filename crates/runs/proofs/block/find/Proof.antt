@@ -1,4 +1,4 @@
--- `runs::block::find` meets its contract: the second search begins where the first ended. Assumes nothing.
+-- `runs::block::find` meets its contract: the second search begins where the first ended.
 use mathlib.Core.Path.{refl}
 use native.Mathlib.Numerals.{add-one}
 use borrow.Author.Needs.{needs}

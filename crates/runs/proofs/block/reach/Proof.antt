@@ -1,4 +1,4 @@
--- `runs::block::reach` meets its contract: from each row passed the search finds the same. Assumes nothing.
+-- `runs::block::reach` meets its contract: from each row passed the search finds the same.
 use Prim.Native.Nat.{_-_}
 use mathlib.Core.Path.{_≡_, refl, sym, _∙_}
 use borrow.Author.Needs.{needs}

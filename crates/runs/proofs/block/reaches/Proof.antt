@@ -1,4 +1,4 @@
--- `runs::block::reaches` meets its contract: the two columns are compared as the definition does. Assumes nothing.
+-- `runs::block::reaches` meets its contract: the two columns are compared as the definition does.
 use mathlib.Core.Path.{refl}
 use borrow.Author.Needs.{needs}
 use Rattle.runs.specs.Schedule.{reaches}

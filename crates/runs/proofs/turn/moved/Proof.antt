@@ -1,4 +1,4 @@
--- `runs::turn::moved` meets its contract: from every row passed it comes to the same position. Assumes nothing.
+-- `runs::turn::moved` meets its contract: from every row passed it comes to the same position.
 use Prim.Native.Nat.{_-_}
 use mathlib.Core.Path.{_≡_, refl, sym, _∙_}
 use denote.Ref.{now}

@@ -1,4 +1,4 @@
--- `runs::turn::tick` meets its contract: what runs is what stands at the position that it comes to. Assumes nothing.
+-- `runs::turn::tick` meets its contract: what runs is what stands at the position that it comes to.
 use Prim.Native.Nat.{ℕ}
 use mathlib.Core.Path.{ap, _∙_}
 use denote.Ref.{now}

@@ -1,4 +1,4 @@
--- `runs::unit::watch` meets its contract: after every tick, those left come to what all come to. Assumes nothing.
+-- `runs::unit::watch` meets its contract: after every tick, those left come to what all come to.
 use Prim.Native.Nat.{_-_}
 use borrow.Author.Needs.{needs}
 use Rattle.runs.specs.Schedule.{rowsOf}

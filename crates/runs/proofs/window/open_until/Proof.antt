@@ -1,4 +1,4 @@
--- `runs::window::open_until` meets its contract: it asks the windows where it runs beyond what is known. Assumes nothing.
+-- `runs::window::open_until` meets its contract: it asks the windows where it runs beyond what is known.
 use mathlib.Core.Path.{_∙_}
 use denote.Ref.{now}
 use borrow.Author.Needs.{needs}

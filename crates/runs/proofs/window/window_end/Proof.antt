@@ -1,4 +1,4 @@
--- `runs::window::window_end` meets its contract: the search stops at the first window that has the tick. Assumes nothing.
+-- `runs::window::window_end` meets its contract: the search stops at the first window that has the tick.
 use Prim.Native.Nat.{_-_}
 use mathlib.Core.Path.{sym, _∙_}
 use borrow.Author.Needs.{needs}

@@ -1,4 +1,4 @@
--- `runs::window::window_has` meets its contract: the row says supplier, mode and both ends. Assumes nothing.
+-- `runs::window::window_has` meets its contract: the row says supplier, mode and both ends.
 use mathlib.Core.Path.{refl}
 use borrow.Author.Needs.{needs}
 use Rattle.runs.specs.Windows.{windowHas}
@@ -17,15 +17,12 @@ field-requires-2 c κs = search needs
 field-requires-3 : tie.Need-field-requires-3
 field-requires-3 c κs = search needs
 
-index-requires : tie.Need-index-requires
-index-requires c κs = search needs
-
-index-requires-2 : tie.Need-index-requires-2
-index-requires-2 c κs = search needs
+is-requires : tie.Need-is-requires
+is-requires c κs = search needs
 
 returns : tie.Need-returns
 unfolding windowHas
-returns c = simp (c .index2 .ensures, c .before .index .ensures, c .before .before .field3 .ensures, c .before .before .before .field2 .ensures, c .before .before .before .before .mode .ensures, c .before .before .before .before .before .field .ensures) refl
+returns c = simp (c .is .ensures, c .before .field3 .ensures, c .before .before .field2 .ensures, c .before .before .before .mode .ensures, c .before .before .before .before .field .ensures) refl
 
 pub window-has-spec : {M : Type 1} → statement M
 window-has-spec =
@@ -35,6 +32,5 @@ window-has-spec =
     mode-requires
     field-requires-2
     field-requires-3
-    index-requires
-    index-requires-2
+    is-requires
     returns)

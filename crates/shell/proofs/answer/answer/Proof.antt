@@ -1,5 +1,5 @@
 -- `shell::answer::answer` meets its contract: a complete text is compiled; of the others a count was out of its limit, or the text is
--- bad. Assumes nothing.
+-- bad.
 use Prim.Native.Nat.{ℕ}
 use mathlib.Core.Path.{_≡_, refl, ap, _∙_}
 use mathlib.Core.List.{List}
@@ -23,7 +23,7 @@ compiled-requires c κs = search needs
 same-length : tie.Need-same-length
 same-length c = search needs
 
--- into blank code it is the answer that document 01 has printed
+-- an answer with blank code is the one that document 01 has printed
 into-blank : (r : Read Tables) (a : Answered) (code : List ℕ) → code ≡ blank → a ≡ answerOf r code
     → (a ≡ answerOf r blank) × (textOfAnswer a ≡ printed r)
 into-blank r a code e f = let g = f ∙ ap (answerOf r) e in (g, ap textOfAnswer g ∙ read-text r)

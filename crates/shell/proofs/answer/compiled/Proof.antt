@@ -1,5 +1,5 @@
 -- `shell::answer::compiled` meets its contract: the tables are those that lie in the room, and the start mode goes through its bits
--- once. Assumes nothing.
+-- once.
 use mathlib.Core.Path.{_≡_, ap, _∙_}
 use lib.IntN.{ℤ}
 use Rattle.cells.proofs.Ints.{back}

@@ -1,4 +1,4 @@
--- `shell::pages::lines` meets its contract: none of the code after `bad input`, else as much as it is long. Assumes nothing.
+-- `shell::pages::lines` meets its contract: none of the code after `bad input`, else as much as it is long.
 use mathlib.Core.Path.{refl}
 use borrow.Author.Needs.{needs}
 use Rattle.shell.specs.Writing.{codeOf}

@@ -1,4 +1,4 @@
--- `shell::pages::opening` meets its contract: `bad input`, or the number. Assumes nothing.
+-- `shell::pages::opening` meets its contract: `bad input`, or the number.
 use mathlib.Core.Path.{sym, subst}
 use mathlib.Core.List.{List}
 use Prim.Native.Nat.{ℕ}

@@ -1,4 +1,4 @@
--- `shell::pages::page` meets its contract: the first line is laid, or a page of lines filled. Assumes nothing.
+-- `shell::pages::page` meets its contract: the first line is laid, or a page of lines filled.
 use mathlib.Core.Path.{sym, ap, _∙_}
 use mathlib.Core.Bool.{Bool}
 use native.Mathlib.Omega.{arith}

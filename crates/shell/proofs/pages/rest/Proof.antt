@@ -1,4 +1,4 @@
--- `shell::pages::rest` meets its contract: both ends are cut to what there is. Assumes nothing.
+-- `shell::pages::rest` meets its contract: both ends are cut to what there is.
 use borrow.Author.Needs.{needs}
 use Rattle.shell.specs.Writing.{restOf}
 use Rattle.cells.proofs.Held.{between-is}

@@ -1,4 +1,4 @@
--- `shell::pages::wrote` meets its contract: the rest of the page, or the next one. Assumes nothing.
+-- `shell::pages::wrote` meets its contract: the rest of the page, or the next one.
 use mathlib.Core.Path.{ap, sym, _∙_}
 use native.Mathlib.Omega.{arith}
 use lib.ListN.{length, take, length-drop, length-take}

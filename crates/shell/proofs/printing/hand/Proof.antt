@@ -1,4 +1,4 @@
--- `shell::printing::hand` meets its contract: a write takes no more than it was handed. Assumes nothing.
+-- `shell::printing::hand` meets its contract: a write takes no more than it was handed.
 use mathlib.Core.Path.{ap}
 use native.Mathlib.Omega.{arith}
 use lib.ListN.{length}

@@ -1,5 +1,4 @@
 -- `shell::printing::print` meets its contract: in each turn what some writes have come to. The measure is what is still to come.
--- Assumes nothing.
 use mathlib.Core.Path.{_≡_, refl, sym, subst}
 use native.Mathlib.Omega.{arith}
 use lib.ListN.{length}

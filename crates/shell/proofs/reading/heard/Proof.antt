@@ -1,5 +1,5 @@
 -- `shell::reading::heard` meets its contract: in each turn what some reads have come to, and the program reads on. The measure is the turns
--- that are left. Assumes nothing.
+-- that are left.
 use mathlib.Core.Path.{_≡_, refl, sym, subst, ap, _∙_}
 use mathlib.Core.Bool.{true, false}
 use lib.ListN.{length}

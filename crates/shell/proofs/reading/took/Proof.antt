@@ -1,4 +1,4 @@
--- `shell::reading::took` meets its contract: what came is fed, none of it where the read failed or the input has ended. Assumes nothing.
+-- `shell::reading::took` meets its contract: what came is fed, none of it where the read failed or the input has ended.
 use Prim.Native.Nat.{ℕ}
 use mathlib.Core.Path.{_≡_, sym, ap, _∙_}
 use mathlib.Core.Bool.{Bool, true, false, not}
@@ -30,7 +30,7 @@ many c n e = e ∙ ap (λ (z : ℤ). clamped z (length (c .args .buffer .now))) 
 
 -- the three ways, from what was fed
 module _ (f g : Fed) (got : ℤ) (buffer : List ℕ) (n : ℕ) (h : n ≡ clamped got (length buffer)) (e : g ≡ fedAll f (take n buffer)) where
-  -- nothing was
+  -- where no byte was fed, the text is as it was
   same : n ≡ 0 → g ≡ f
   same z = e ∙ ap (λ (k : ℕ). fedAll f (take k buffer)) z
 

@@ -1,5 +1,4 @@
 -- `suppliers::joined::refused` meets its contract: the search against the table that is filled says whether some row is wrong.
--- Assumes nothing.
 use Prim.Native.Nat.{ℕ}
 use mathlib.Core.Path.{_≡_, refl, ap, ap₂, _∙_}
 use mathlib.Core.Bool.{Bool, _||_}

@@ -1,4 +1,4 @@
--- `suppliers::joined::row_count` meets its contract: what was counted and what is left are all. Assumes nothing.
+-- `suppliers::joined::row_count` meets its contract: what was counted and what is left are all.
 use Prim.Native.Nat.{ℕ, _+_, _-_}
 use mathlib.Core.Path.{sym, subst, _∙_}
 use mathlib.Core.Bool.{Bool}

@@ -1,4 +1,4 @@
--- `suppliers::joined::some_long` meets its contract: the search asks the row count of each supplier. Assumes nothing.
+-- `suppliers::joined::some_long` meets its contract: the search asks the row count of each supplier.
 use Prim.Native.Nat.{_-_, _≤_, _<_}
 use mathlib.Core.Path.{sym, subst}
 use lib.Dec.{ltb}

@@ -1,4 +1,4 @@
--- `suppliers::parts::refused` meets its contract: the rows are held against the table that is filled. Assumes nothing.
+-- `suppliers::parts::refused` meets its contract: the rows are held against the table that is filled.
 use Prim.Native.Nat.{ℕ}
 use mathlib.Core.Path.{_≡_, refl, ap, _∙_}
 use mathlib.Core.List.{List}

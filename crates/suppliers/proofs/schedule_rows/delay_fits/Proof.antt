@@ -1,5 +1,4 @@
--- `suppliers::schedule_rows::delay_fits` meets its contract: the row says its address and timeout, the table the delay there. Assumes
--- nothing.
+-- `suppliers::schedule_rows::delay_fits` meets its contract: the row says its address and timeout, the table the delay there.
 use mathlib.Core.Path.{refl}
 use Rattle.suppliers.specs.Schedule.{delayFits}
 use borrow.Author.Needs.{needs}

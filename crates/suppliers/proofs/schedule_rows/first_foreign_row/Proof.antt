@@ -1,4 +1,4 @@
--- `suppliers::schedule_rows::first_foreign_row` meets its contract: the search asks the supplier of each row. Assumes nothing.
+-- `suppliers::schedule_rows::first_foreign_row` meets its contract: the search asks the supplier of each row.
 use Prim.Native.Nat.{_-_}
 use mathlib.Core.Path.{sym, ap, _∙_}
 use mathlib.Core.Bool.{not}

@@ -1,4 +1,4 @@
--- `suppliers::schedule_rows::part_bad` meets its contract: the two searches say whether some row has what they ask. Assumes nothing.
+-- `suppliers::schedule_rows::part_bad` meets its contract: the two searches say whether some row has what they ask.
 use mathlib.Core.Path.{refl, ap₂}
 use mathlib.Core.Bool.{Bool, not, _||_}
 use lib.Dec.{eqb, leb}

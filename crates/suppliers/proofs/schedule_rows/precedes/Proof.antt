@@ -1,4 +1,4 @@
--- `suppliers::schedule_rows::precedes` meets its contract: the two rows say their supplier and address. Assumes nothing.
+-- `suppliers::schedule_rows::precedes` meets its contract: the two rows say their supplier and address.
 use mathlib.Core.Path.{refl}
 use Rattle.suppliers.specs.Schedule.{precedes}
 use borrow.Author.Needs.{needs}

@@ -1,4 +1,4 @@
--- `suppliers::schedule_rows::row_wrong` meets its contract: each part of the rule is asked of the row. Assumes nothing.
+-- `suppliers::schedule_rows::row_wrong` meets its contract: each part of the rule is asked of the row.
 use mathlib.Core.Path.{refl}
 use Rattle.suppliers.specs.Delays.{rowWrongBy}
 use borrow.Author.Needs.{needs}

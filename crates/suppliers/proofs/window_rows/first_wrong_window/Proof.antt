@@ -1,4 +1,4 @@
--- `suppliers::window_rows::first_wrong_window` meets its contract: the search asks the test of each row. Assumes nothing.
+-- `suppliers::window_rows::first_wrong_window` meets its contract: the search asks the test of each row.
 use Prim.Native.Nat.{_-_}
 use mathlib.Core.Path.{_≡_, sym, _∙_}
 use Rattle.theory.proofs.Search.{Passed, passed-none, passed-more, first-found, first-none}

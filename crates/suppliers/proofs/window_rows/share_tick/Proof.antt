@@ -1,4 +1,4 @@
--- `suppliers::window_rows::share_tick` meets its contract: the two rows say their mode and ticks. Assumes nothing.
+-- `suppliers::window_rows::share_tick` meets its contract: the two rows say their mode and ticks.
 use mathlib.Core.Path.{refl}
 use Rattle.runs.specs.Windows.{shareTick}
 use borrow.Author.Needs.{needs}
@@ -23,15 +23,12 @@ field-requires-3 c κs = search needs
 field-requires-4 : tie.Need-field-requires-4
 field-requires-4 c κs = search needs
 
-index-requires : tie.Need-index-requires
-index-requires c κs = search needs
-
-index-requires-2 : tie.Need-index-requires-2
-index-requires-2 c κs = search needs
+is-requires : tie.Need-is-requires
+is-requires c κs = search needs
 
 returns : tie.Need-returns
 unfolding shareTick
-returns c = simp (c .index2 .ensures, c .before .index .ensures, c .before .before .field4 .ensures, c .before .before .before .field3 .ensures, c .before .before .before .before .field2 .ensures, c .before .before .before .before .before .field .ensures, c .before .before .before .before .before .before .mode2 .ensures, c .before .before .before .before .before .before .before .mode .ensures) refl
+returns c = simp (c .is .ensures, c .before .field4 .ensures, c .before .before .field3 .ensures, c .before .before .before .field2 .ensures, c .before .before .before .before .field .ensures, c .before .before .before .before .before .mode2 .ensures, c .before .before .before .before .before .before .mode .ensures) refl
 
 pub share-tick-spec : {M : Type 1} → statement M
 share-tick-spec =
@@ -43,6 +40,5 @@ share-tick-spec =
     field-requires-2
     field-requires-3
     field-requires-4
-    index-requires
-    index-requires-2
+    is-requires
     returns)

@@ -1,4 +1,4 @@
--- `suppliers::window_rows::shares_earlier` meets its contract: the search asks the test of each earlier row. Assumes nothing.
+-- `suppliers::window_rows::shares_earlier` meets its contract: the search asks the test of each earlier row.
 use Prim.Native.Nat.{_-_}
 use mathlib.Core.Path.{sym, _∙_}
 use Rattle.theory.proofs.Search.{Passed, passed-none, passed-more, any-at, passed-all}

@@ -1,4 +1,4 @@
--- `suppliers::window_rows::window_wrong` meets its contract: each part of the rule is asked of the row. Assumes nothing.
+-- `suppliers::window_rows::window_wrong` meets its contract: each part of the rule is asked of the row.
 use mathlib.Core.Path.{refl}
 use Rattle.suppliers.specs.Windows.{windowWrong}
 use borrow.Author.Needs.{needs}
@@ -17,21 +17,18 @@ field-requires-2 c κs = search needs
 field-requires-3 : tie.Need-field-requires-3
 field-requires-3 c κs = search needs
 
-index-requires : tie.Need-index-requires
-index-requires c κs = search needs
+period-requires : tie.Need-period-requires
+period-requires c κs = search needs
 
-field-requires-4 : tie.Need-field-requires-4
-field-requires-4 c κs = search needs
-
-index-requires-2 : tie.Need-index-requires-2
-index-requires-2 c κs = search needs
+declared-requires : tie.Need-declared-requires
+declared-requires c κs = search needs
 
 shares-earlier-requires : tie.Need-shares-earlier-requires
 shares-earlier-requires c κs = search needs
 
 returns : tie.Need-returns
 unfolding windowWrong
-returns c T e = simp (c .shares-earlier .ensures, c .before .index2 .ensures, c .before .before .field4 .ensures, c .before .before .before .index .ensures, c .before .before .before .before .field3 .ensures, c .before .before .before .before .before .field2 .ensures, c .before .before .before .before .before .before .mode .ensures, c .before .before .before .before .before .before .before .field .ensures, e) refl
+returns c T e = simp (c .shares-earlier .ensures, c .before .declared .ensures, c .before .before .period .ensures, c .before .before .before .field3 .ensures, c .before .before .before .before .field2 .ensures, c .before .before .before .before .before .mode .ensures, c .before .before .before .before .before .before .field .ensures, e) refl
 
 pub window-wrong-spec : {M : Type 1} → statement M
 window-wrong-spec =
@@ -41,8 +38,7 @@ window-wrong-spec =
     mode-requires
     field-requires-2
     field-requires-3
-    index-requires
-    field-requires-4
-    index-requires-2
+    period-requires
+    declared-requires
     shares-earlier-requires
     returns)

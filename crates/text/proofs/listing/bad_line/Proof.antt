@@ -1,4 +1,4 @@
--- `text::listing::bad_line` meets its contract: the words, as they stand. Assumes nothing.
+-- `text::listing::bad_line` meets its contract: the words, as they stand.
 use mathlib.Core.List.{[]}
 use borrow.Author.Needs.{needs}
 use Rattle.text.specs.Shipped.{badInput}

@@ -1,4 +1,4 @@
--- `text::listing::line` meets its contract: the pieces of a line, one after the other. Assumes nothing.
+-- `text::listing::line` meets its contract: the pieces of a line, one after the other.
 use mathlib.Core.Path.{subst}
 use mathlib.Core.List.{[], _∷_, _++_}
 use native.Mathlib.Omega.{arith}

@@ -1,4 +1,4 @@
--- `text::listing::none` meets its contract: the mnemonic alone. Assumes nothing.
+-- `text::listing::none` meets its contract: the mnemonic alone.
 use mathlib.Core.Path.{subst}
 use borrow.Author.Needs.{needs}
 use Rattle.text.specs.Line.{Appended}

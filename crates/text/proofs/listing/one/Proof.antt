@@ -1,4 +1,4 @@
--- `text::listing::one` meets its contract: the mnemonic, then the argument. Assumes nothing.
+-- `text::listing::one` meets its contract: the mnemonic, then the argument.
 use mathlib.Core.Path.{subst}
 use mathlib.Core.List.{[], _∷_}
 use borrow.Author.Needs.{needs}

@@ -1,8 +1,9 @@
--- `text::listing::said` meets its contract: an arm for each number, nothing for the others. Assumes nothing.
+-- `text::listing::said` meets its contract: an arm for each number, nothing for the others.
 use Prim.Native.Nat.{ℕ, _+_}
 use mathlib.Core.Path.{_≡_, sym, ap, subst, _∙_}
 use borrow.Author.Needs.{needs}
-use Rattle.code.specs.Op.{call, schedule, jump, return, callNumber, scheduleNumber, ifNumber, jumpNumber, futureNumber, returnNumber, decode}
+use Rattle.code.specs.Op.{call, schedule, jump, return, callNumber, scheduleNumber, ifNumber, jumpNumber, futureNumber, returnNumber}
+use Rattle.code.specs.Op.{decode}
 use Rattle.text.specs.Line.{Appended}
 use Rattle.text.specs.Said.{saidOf}
 use Rattle.text.proofs.Lines.{appended-none}
@@ -46,7 +47,7 @@ slice-aggregate-none c = search needs
 none-requires : tie.Need-none-requires
 none-requires c κs = search needs
 
--- the instruction that the first word says
+-- what is said of the instruction by the number that the first word is
 known : (c : tie.Start) (n : ℕ) → c .args .number ≡ n → saidOf (decode n (c .args .first) (c .args .second)) ≡ saidOf (decode (c .args .number) (c .args .first) (c .args .second))
 known c n e = ap (λ (k : ℕ). saidOf (decode k (c .args .first) (c .args .second))) (sym e)
 

@@ -1,4 +1,4 @@
--- `text::listing::two` meets its contract: the mnemonic, then one argument after the other. Assumes nothing.
+-- `text::listing::two` meets its contract: the mnemonic, then one argument after the other.
 use mathlib.Core.Path.{subst}
 use mathlib.Core.List.{[], _∷_}
 use native.Mathlib.Omega.{arith}

@@ -1,4 +1,4 @@
--- `text::listing::verdict_line` meets its contract: the number, then the line's end. Assumes nothing.
+-- `text::listing::verdict_line` meets its contract: the number, then the line's end.
 use mathlib.Core.List.{[], _∷_}
 use native.Mathlib.Omega.{arith}
 use borrow.Author.Needs.{needs}

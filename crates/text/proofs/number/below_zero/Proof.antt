@@ -1,4 +1,4 @@
--- `text::number::below_zero` meets its contract: 0 less a number that fits is its opposite, and the least number has none. Assumes nothing.
+-- `text::number::below_zero` meets its contract: 0 less a number that fits is its opposite, and the least number has none.
 use mathlib.Core.Path.{sym}
 use borrow.Author.Needs.{needs}
 use mir.Syntax.{w32}

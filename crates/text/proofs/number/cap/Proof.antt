@@ -1,4 +1,4 @@
--- `text::number::cap` meets its contract: the two cases of `capped`. Assumes nothing.
+-- `text::number::cap` meets its contract: the two cases of `capped`.
 use mathlib.Core.Path.{sym}
 use Rattle.text.proofs.Capped.{capped-small, capped-large}
 use Rattle.text.proofs.number.cap.Statement.{statement}

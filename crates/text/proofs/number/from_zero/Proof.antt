@@ -1,4 +1,4 @@
--- `text::number::from_zero` meets its contract: a number that fits is its bits. Assumes nothing.
+-- `text::number::from_zero` meets its contract: a number that fits is its bits.
 use mathlib.Core.Path.{sym}
 use borrow.Author.Needs.{needs}
 use Rattle.text.proofs.Signs.{from-zero, past-greatest}

@@ -1,4 +1,4 @@
--- `text::number::in_word` meets its contract: the two cases of `asWord`. Assumes nothing.
+-- `text::number::in_word` meets its contract: the two cases of `asWord`.
 use mathlib.Core.Path.{sym}
 use borrow.Author.Needs.{needs}
 use Rattle.text.proofs.Signs.{in-word, past-word}

@@ -1,4 +1,4 @@
--- `text::page::fill` meets its contract: a line a turn, as long as there is an instruction and room for any line. Assumes nothing.
+-- `text::page::fill` meets its contract: a line a turn, as long as there is an instruction and room for any line.
 use Prim.Native.Nat.{_-_, _/_, _≤_, _<_}
 use mathlib.Core.Path.{refl}
 use native.Mathlib.Omega.{arith}

@@ -1,4 +1,4 @@
--- `text::page::lay` meets its contract: a byte a turn. Assumes nothing.
+-- `text::page::lay` meets its contract: a byte a turn.
 use Prim.Native.Nat.{_-_}
 use mathlib.Core.Path.{_≡_}
 use native.Mathlib.Omega.{arith}

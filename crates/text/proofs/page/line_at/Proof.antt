@@ -1,4 +1,4 @@
--- `text::page::line_at` meets its contract: the three words of the instruction are read. Assumes nothing.
+-- `text::page::line_at` meets its contract: the three words of the instruction are read.
 use mathlib.Core.Path.{subst, ap}
 use borrow.Author.Needs.{needs}
 use Rattle.code.proofs.Fetch.{instruction-read}

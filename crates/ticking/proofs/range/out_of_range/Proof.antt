@@ -1,4 +1,4 @@
--- `ticking::range::out_of_range` meets its contract: the state says its addresses and ticks, the two searches the rest. Assumes nothing.
+-- `ticking::range::out_of_range` meets its contract: the state says its addresses and ticks, the two searches the rest.
 use mathlib.Core.Path.{ap₂}
 use mathlib.Core.Bool.{Bool, _||_}
 use lib.Dec.{ltb, leb}

@@ -1,4 +1,4 @@
--- `ticking::range::some_far` meets its contract: the search asks the position of each supplier. Assumes nothing.
+-- `ticking::range::some_far` meets its contract: the search asks the position of each supplier.
 use Prim.Native.Nat.{_-_}
 use mathlib.Core.Path.{sym}
 use lib.Dec.{ltb}

@@ -1,4 +1,4 @@
--- `ticking::schedules::outputs_after` meets its contract: a task with one tick left completes. Assumes nothing.
+-- `ticking::schedules::outputs_after` meets its contract: a task with one tick left completes.
 use mathlib.Core.Path.{sym, _∙_}
 use borrow.Author.Needs.{needs}
 use borrow.Author.Tests.{eq-eqb, ne-eqb}
@@ -6,22 +6,22 @@ use Rattle.machine.specs.Schedules.{outputsAt}
 use Rattle.ticking.proofs.schedules.outputs_after.Statement.{statement}
 use Rattle.ticking.proofs.schedules.outputs_after.Tie as tie
 
-slice-aggregate-left-of : tie.Need-slice-aggregate-left-of
-slice-aggregate-left-of c = search needs
+slice-aggregate-left : tie.Need-slice-aggregate-left
+slice-aggregate-left c = search needs
 
-left-of-requires : tie.Need-left-of-requires
-left-of-requires c κs = search needs
+left-requires : tie.Need-left-requires
+left-requires c κs = search needs
 
 outputs-taken-requires : tie.Need-outputs-taken-requires
 outputs-taken-requires c κs = search needs
 
 returns : tie.Need-returns
-returns c T e f = c .outputs-taken .ensures T e f ∙ sym (rw (eq-eqb _ 1 (sym (c .before .before .left-of .ensures) ∙ c .before .if1 .taken), outputsAt))
+returns c T e f = c .outputs-taken .ensures T e f ∙ sym (rw (eq-eqb _ 1 (sym (c .before .before .left3 .ensures) ∙ c .before .if1 .taken), outputsAt))
 
 returns-2 : tie.Need-returns-2
-returns-2 c T e f = sym (rw (ne-eqb _ 1 (λ q. c .if1 .left (c .before .left-of .ensures ∙ q)), outputsAt))
+returns-2 c T e f = sym (rw (ne-eqb _ 1 (λ q. c .if1 .left (c .before .left3 .ensures ∙ q)), outputsAt))
 
 pub outputs-after-spec : {M : Type 1} → statement M
 outputs-after-spec =
     tie.close
-    (tie.spec slice-aggregate-left-of left-of-requires outputs-taken-requires returns returns-2)
+    (tie.spec slice-aggregate-left left-requires outputs-taken-requires returns returns-2)

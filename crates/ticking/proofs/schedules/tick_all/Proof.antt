@@ -1,5 +1,5 @@
 -- `ticking::schedules::tick_all` meets its contract: two that run are refused, one has its tick, and the one that has it is a declared
--- task. Assumes nothing.
+-- task.
 use mathlib.Core.Path.{_∙_}
 use mathlib.Core.Logic.{⊎-elim}
 use native.Mathlib.Omega.{arith}

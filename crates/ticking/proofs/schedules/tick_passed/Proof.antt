@@ -1,4 +1,4 @@
--- `ticking::schedules::tick_passed` meets its contract: where no tick of the unit remains, none more is taken off. Assumes nothing.
+-- `ticking::schedules::tick_passed` meets its contract: where no tick of the unit remains, none more is taken off.
 use Prim.Native.Nat.{_-_}
 use mathlib.Core.Path.{refl}
 use mathlib.Core.Logic.{⊎-elim}

@@ -1,4 +1,4 @@
--- `ticking::schedules::turns` meets its contract: each search begins where the block of the supplier before ends. Assumes nothing.
+-- `ticking::schedules::turns` meets its contract: each search begins where the block of the supplier before ends.
 use Prim.Native.Nat.{_-_, _≤_}
 use mathlib.Core.Path.{_≡_}
 use native.Mathlib.Omega.{arith}
@@ -17,8 +17,11 @@ Inv-loop rows s left positions₀ running₀ from₀ j₀ positions running from
 abbrev μ-loop : tie.MeasureT-loop
 μ-loop rows s left positions₀ running₀ from₀ j₀ positions running from j = suppliers - j
 
+of-requires : tie.Need-of-requires Inv-loop μ-loop
+of-requires c κs = search needs
+
 loop-holds : tie.Need-loop-holds Inv-loop μ-loop
-loop-holds c = (search needs, search needs, λ o. walk-begun _ _)
+loop-holds c = (search needs, search needs, λ o. walk-begun _ _ (c .of .result) (c .of .ensures))
 
 find-requires : tie.Need-find-requires Inv-loop μ-loop
 find-requires c κs = search needs
@@ -26,7 +29,7 @@ find-requires c κs = search needs
 rows-at-requires : tie.Need-rows-at-requires Inv-loop μ-loop
 rows-at-requires c κs =
     let l = c .before .before .loop in
-    let a = c .before .before .before .before .before .args in
+    let a = c .before .before .before .before .before .before .args in
     walk-within (a .rows .now) (a .s) (l .from) (l .j) (c .find .result) (l .inv .0) (c .find .ensures)
 
 mul-tick : tie.Need-mul-tick Inv-loop μ-loop
@@ -59,7 +62,7 @@ loop-again c =
     let b = c .before .before .rows-at in
     let f = c .before .before .before .find in
     let l = c .before .before .before .before .before .loop in
-    let a = c .before .before .before .before .before .before .before .before .args in (
+    let a = c .before .before .before .before .before .before .before .before .before .args in (
       walk-within (a .rows .now) (a .s) (l .from) (l .j) (f .result) (l .inv .0) (f .ensures) .1,
       search needs,
       λ o.
@@ -70,7 +73,7 @@ loop-again c =
 returns : tie.Need-returns Inv-loop μ-loop
 returns c o =
     let l = c .before .loop in
-    let s = c .before .before .before .before .args .s in
+    let s = c .before .before .before .before .before .args .s in
     let e : length (s .positions) ≡ suppliers = search needs in
     walk-ended _ s (l .positions) (l .running) (l .from) (l .j) (omega (arith, c .loop-test .left, l .inv .1)) e (l .inv .2 o)
 
@@ -80,6 +83,7 @@ turns-spec =
     (tie.spec
     Inv-loop
     μ-loop
+    of-requires
     loop-holds
     find-requires
     rows-at-requires

@@ -1,4 +1,4 @@
--- `ticking::values::copied` meets its contract: from every row on, the copies left come to what all copies come to. Assumes nothing.
+-- `ticking::values::copied` meets its contract: from every row on, the copies left come to what all copies come to.
 use Prim.Native.Nat.{_-_}
 use mathlib.Core.Path.{_≡_, _∙_}
 use lib.ListN.{length}

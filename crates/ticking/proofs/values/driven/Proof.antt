@@ -1,4 +1,4 @@
--- `ticking::values::driven` meets its contract: the guard has two answers. Assumes nothing.
+-- `ticking::values::driven` meets its contract: the guard has two answers.
 use mathlib.Core.Path.{sym, _∙_}
 use borrow.Author.Needs.{needs}
 use Rattle.ticking.proofs.Assigned.{drive-copies, drive-nothing}

@@ -1,8 +1,7 @@
--- `ticking::values::output_row` meets its contract: the row names its task and its port. Assumes nothing.
+-- `ticking::values::output_row` meets its contract: the row names its task and its port.
 use mathlib.Core.Path.{_≡_, _∙_}
 use mathlib.Core.Bool.{_&&_}
 use denote.Ref.{now}
-use lib.Dec.{eqb}
 use borrow.Author.Needs.{needs}
 use Rattle.cells.proofs.Ints.{back}
 use Rattle.program.specs.Tables.{Tables, taskPortPort}
@@ -13,16 +12,15 @@ use Rattle.ticking.proofs.values.output_row.Statement.{statement}
 use Rattle.ticking.proofs.values.output_row.Tie as tie
 
 abbrev start : tie.After-is-kind → tie.Start
-start c = c .before .before .before .before .before
+start c = c .before .before .before .before
 
 -- the row is an output of the task exactly where both tests say so
 own : (c : tie.After-is-kind) (T : Tables) → T .ports ≡ now (start c .args .ports) → T .taskPorts ≡ now (start c .args .task-ports)
-    → isOutputRow T (start c .args .t .0) (start c .args .k)
-    ≡ eqb (c .before .before .index .result) (c .before .index2 .result) && c .is-kind .result
+    → isOutputRow T (start c .args .t .0) (start c .args .k) ≡ c .before .is .result && c .is-kind .result
 unfolding isOutputRow
 own c T e f =
-    let p = c .before .before .before in
-    simp (c .is-kind .ensures T e, c .before .index2 .ensures, c .before .before .index .ensures, p .port .ensures, p .before .task .ensures, f)
+    let p = c .before .before in
+    simp (c .is-kind .ensures T e, c .before .is .ensures, p .port .ensures, p .before .task .ensures, f)
 
 task-requires : tie.Need-task-requires
 task-requires c κs = search needs
@@ -30,26 +28,17 @@ task-requires c κs = search needs
 port-requires : tie.Need-port-requires
 port-requires c κs = search needs
 
-index-requires : tie.Need-index-requires
-index-requires c κs = search needs
-
-index-requires-2 : tie.Need-index-requires-2
-index-requires-2 c κs = search needs
+is-requires : tie.Need-is-requires
+is-requires c κs = search needs
 
 is-kind-requires : tie.Need-is-kind-requires
 is-kind-requires c κs = search needs
 
-index-requires-3 : tie.Need-index-requires-3
-index-requires-3 c κs = search needs
-
-index-requires-4 : tie.Need-index-requires-4
-index-requires-4 c κs = search needs
-
 value-requires : tie.Need-value-requires
 value-requires c κs = search needs
 
-put-value-requires : tie.Need-put-value-requires
-put-value-requires c κs = search needs
+put-requires : tie.Need-put-requires
+put-requires c κs = search needs
 
 same-length : tie.Need-same-length
 same-length c = search needs
@@ -57,21 +46,19 @@ same-length c = search needs
 returns : tie.Need-returns
 returns c T e f =
     let v = c .before .before in
-    let at = v .before .before .index3 in
-    let k = v .before .before .before .before .before in
-    let port = k .before .before .before .port in
+    let k = v .before .before .before in
+    let port = k .before .before .port in
     let a = start k .args in
-    let place : at .result ≡ taskPortPort T (a .k) = simp (at .ensures, port .ensures, f) in
-    let value : v .value .result ≡ valueOf (now (a .lent)) (taskPortPort T (a .k)) =
-    simp (v .value .ensures, v .before .index4 .ensures, port .ensures, f) in
-    c .before .put-value .ensures
-    ∙ row-put _ (outputPut T (now (a .lent)) (a .k)) (now (a .values)) _ _ (own k T e f ∙ v .before .before .before .before .if1 .taken) place
+    let place : port .result .0 ≡ taskPortPort T (a .k) = simp (port .ensures, f) in
+    let value : v .value .result ≡ valueOf (now (a .given)) (taskPortPort T (a .k)) = simp (v .value .ensures, port .ensures, f) in
+    c .before .put .ensures
+    ∙ row-put _ (outputPut T (now (a .given)) (a .k)) (now (a .values)) _ _ (own k T e f ∙ v .before .before .if1 .taken) place
     (back (v .value .result) (v .value .ok) ∙ value)
 
 returns-2 : tie.Need-returns-2
 returns-2 c T e f =
     let a = start (c .before) .args in
-    row-kept _ (outputPut T (now (a .lent)) (a .k)) (now (a .values)) (own (c .before) T e f ∙ c .if1 .left)
+    row-kept _ (outputPut T (now (a .given)) (a .k)) (now (a .values)) (own (c .before) T e f ∙ c .if1 .left)
 
 pub output-row-spec : {M : Type 1} → statement M
 output-row-spec =
@@ -79,13 +66,10 @@ output-row-spec =
     (tie.spec
     task-requires
     port-requires
-    index-requires
-    index-requires-2
+    is-requires
     is-kind-requires
-    index-requires-3
-    index-requires-4
     value-requires
-    put-value-requires
+    put-requires
     same-length
     returns
     returns-2)

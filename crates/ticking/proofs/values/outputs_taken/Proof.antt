@@ -1,5 +1,4 @@
--- `ticking::values::outputs_taken` meets its contract: from every row on, the outputs left come to what all outputs come to. Assumes
--- nothing.
+-- `ticking::values::outputs_taken` meets its contract: from every row on, the outputs left come to what all outputs come to.
 use Prim.Native.Nat.{_-_}
 use mathlib.Core.Path.{_≡_, _∙_}
 use lib.ListN.{length}
@@ -14,13 +13,13 @@ use Rattle.ticking.proofs.values.outputs_taken.Statement.{statement}
 use Rattle.ticking.proofs.values.outputs_taken.Tie as tie
 
 abbrev Inv-loop : tie.InvT-loop
-Inv-loop ports task-ports t lent n next₀ k₀ next k =
+Inv-loop ports task-ports t given n next₀ k₀ next k =
     (length next ≡ maxPorts)
     × ((T : Tables) → T .ports ≡ ports → T .taskPorts ≡ task-ports
-    → RowsPut (isOutputRow T (t .0)) (outputPut T lent) (rowsIn taskPortWidth task-ports) next₀ k next)
+    → RowsPut (isOutputRow T (t .0)) (outputPut T given) (rowsIn taskPortWidth task-ports) next₀ k next)
 
 abbrev μ-loop : tie.MeasureT-loop
-μ-loop ports task-ports t lent n next₀ k₀ next k = rowsIn taskPortWidth task-ports - k
+μ-loop ports task-ports t given n next₀ k₀ next k = rowsIn taskPortWidth task-ports - k
 
 loop-holds : tie.Need-loop-holds Inv-loop μ-loop
 loop-holds c = (search needs, λ T e f. rows-begun)
@@ -46,7 +45,7 @@ loop-again c =
 returns : tie.Need-returns Inv-loop μ-loop
 returns c T e f =
     let a = c .before .before .args in
-    rows-ended (c .loop-test .left) (c .before .loop .inv .1 T e f) ∙ outputs-all T (a .t .0) (a .lent .now) (a .values) (a .task-ports .now) f
+    rows-ended (c .loop-test .left) (c .before .loop .inv .1 T e f) ∙ outputs-all T (a .t .0) (a .given .now) (a .values) (a .task-ports .now) f
 
 pub outputs-taken-spec : {M : Type 1} → statement M
 outputs-taken-spec =

@@ -1,4 +1,4 @@
--- `vectors::answers::each` is safe and ends: the buffer keeps its length. Assumes nothing.
+-- `vectors::answers::each` is safe and ends: the buffer keeps its length.
 use Prim.Native.Nat.{_-_}
 use mathlib.Core.Path.{_≡_}
 use lib.ListN.{length}

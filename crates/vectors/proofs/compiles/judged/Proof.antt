@@ -1,4 +1,4 @@
--- `vectors::compiles::judged` is safe: no more words are lent than there are. Assumes nothing.
+-- `vectors::compiles::judged` is safe: no more words are lent than there are.
 use mathlib.Core.Path.{sym}
 use native.Mathlib.Omega.{arith}
 use lib.Seq.{length-take-le}

@@ -1,4 +1,4 @@
--- `vectors::compiles::listed` is safe and ends: each word is printed once. Assumes nothing.
+-- `vectors::compiles::listed` is safe and ends: each word is printed once.
 use Prim.Native.Nat.{_-_, _≤_}
 use lib.ListN.{length}
 use borrow.Author.Needs.{needs}

@@ -1,4 +1,4 @@
--- `vectors::kind::dot` is safe and ends, within the name. Assumes nothing.
+-- `vectors::kind::dot` is safe and ends, within the name.
 use Prim.Native.Nat.{_-_, _≤_}
 use lib.ListN.{length}
 use borrow.Author.Needs.{needs}

@@ -1,4 +1,4 @@
--- `vectors::kind::last` is safe and ends, within the name: what was found lies before what was passed. Assumes nothing.
+-- `vectors::kind::last` is safe and ends, within the name: what was found lies before what was passed.
 use Prim.Native.Nat.{_-_, _≤_}
 use lib.ListN.{length}
 use borrow.Author.Needs.{needs}

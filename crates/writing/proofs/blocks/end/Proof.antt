@@ -1,4 +1,4 @@
--- `writing::blocks::end` meets its contract: `return` stands behind `future`. Assumes nothing.
+-- `writing::blocks::end` meets its contract: `return` stands behind `future`.
 use mathlib.Core.Path.{ap, _∙_}
 use mathlib.Core.List.{[], _∷_}
 use native.Mathlib.Omega.{arith}

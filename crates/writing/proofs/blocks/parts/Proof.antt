@@ -1,4 +1,4 @@
--- `writing::blocks::parts` meets its contract: each part stands behind the one before, where the counts say. Assumes nothing.
+-- `writing::blocks::parts` meets its contract: each part stands behind the one before, where the counts say.
 use Prim.Native.Nat.{ℕ, _+_}
 use mathlib.Core.Path.{_≡_, ap, _∙_}
 use mathlib.Core.Bool.{false}
@@ -21,48 +21,57 @@ use Rattle.writing.proofs.Parts.{head-count, tests-count, body-count, s
 use Rattle.writing.proofs.blocks.parts.Statement.{statement}
 use Rattle.writing.proofs.blocks.parts.Tie as tie
 
--- the tables that were lent, whatever the start mode; they have their shape; what is due
+-- the tables that were lent, whatever the start mode
 abbrev lent : tie.Start → Tables
 lent s = tablesIn (s .args .tables .now) (pos 0)
 
+-- the tables that were lent have their shape
 shape : (s : tie.Start) → shapeBad (lent s) ≡ false
 shape s = s .pre .0 (pos 0)
 
+-- how many rows of each table are due at the unit
 abbrev due : tie.Start → Counts
 due s = countsAt (lent s) (s .args .when)
 
--- the parts
+-- what stands before the tests of the block
 abbrev head : tie.Start → List Words
 head s = headIn (lent s .ports) (lent s .invocations) (lent s .updates) (s .args .when)
 
+-- the tests of the block
 abbrev tests : tie.Start → List Words
 tests s = map three (testsOf (switchesIn (lent s .switches) (s .args .when)) (s .args .aim .stub))
 
+-- what stands from the entry of the block to its `future`
 abbrev body : tie.Start → List Words
 body s = bodyIn (lent s .invocations) (s .args .when)
 
+-- the stubs of the block
 abbrev stubs : tie.Start → List Words
 stubs s = map three (stubsIn (s .args .entries .now) (switchesIn (lent s .switches) (s .args .when)))
 
--- where the call before a call was, and the function's entry
+-- the function's entry, from behind the call of `head`
 abbrev start-of : tie.After-head → tie.Start
 start-of c = c .before .before .before .before .before .before .before .before
 
+-- the place behind the call of `head`, from behind that of `tests`
 abbrev head-of : tie.After-tests → tie.After-head
 head-of c = c .before .before .before .before
 
+-- the place behind the call of `tests`, from behind that of `body`
 abbrev tests-of : tie.After-body → tie.After-tests
 tests-of c = c .before .before .before .before
 
+-- the place behind the call of `body`, from behind that of `end`
 abbrev body-of : tie.After-end → tie.After-body
 body-of c = c .before .before .before .before
 
--- where the tests begin, the entry, the `future`, the stubs
+-- the tests begin where the counts say
 tests-at : (c : tie.After-head) → c .head .result ≡ start-of c .args .at + beforeTests (due (start-of c))
 tests-at c =
     let s = start-of c in
     written-at (written (s .args .code .now) (s .args .at)) (head s) (c .head .ensures) ∙ ap (λ (n : ℕ). s .args .at + n) (head-count (lent s) (s .args .when))
 
+-- the entry is where the counts say
 entry-at : (c : tie.After-tests) → c .tests .result ≡ start-of (head-of c) .args .at + beforeEntry (due (start-of (head-of c)))
 entry-at c =
     let h = head-of c in
@@ -70,6 +79,7 @@ entry-at c =
     let e = written-at (written (h .head .last .0) (h .head .result)) (tests s) (c .tests .ensures) in
     omega (arith, e, tests-at h, tests-count (lent s) (s .args .when) (s .args .aim .stub))
 
+-- the `future` stands where the counts say
 future-at : (c : tie.After-body) → c .body .result ≡ start-of (head-of (tests-of c)) .args .at + beforeFuture (due (start-of (head-of (tests-of c))))
 future-at c =
     let t = tests-of c in
@@ -77,6 +87,7 @@ future-at c =
     let e = written-at (written (t .tests .last .0) (t .tests .result)) (body s) (c .body .ensures) in
     omega (arith, e, entry-at t, body-count (lent s) (s .args .when))
 
+-- the stubs begin behind the `future` and the `return`
 stubs-at : (c : tie.After-end)
     → c .end .result ≡ start-of (head-of (tests-of (body-of c))) .args .at + beforeFuture (due (start-of (head-of (tests-of (body-of c))))) + 2
 stubs-at c =

@@ -1,62 +1,62 @@
--- `writing::rows::due_row` meets its contract: the row says whether it is due and what it names. Assumes nothing.
-use Prim.Native.Nat.{ℕ, _+_}
-use mathlib.Core.Path.{sym, ap, _∙_}
-use mathlib.Core.List.{List, [], _∷_}
-use native.Mathlib.Omega.{arith}
-use Rattle.writing.specs.Written.{Words, instruction, written, writes}
-use Rattle.writing.specs.Rows.{isDue, rowWords}
-use Rattle.writing.proofs.Named.{named-most}
-use Rattle.writing.proofs.Left.{one-yes, one-no}
+-- `writing::rows::due_row` meets its contract: the row says whether it is due.
+use Prim.Native.Nat.{ℕ}
+use mathlib.Core.Path.{_≡_, sym, ap, subst, _∙_}
+use mathlib.Core.Bool.{Bool}
+use mathlib.Core.List.{List}
 use borrow.Author.Needs.{needs}
+use Rattle.cells.specs.Cell.{Column}
+use Rattle.program.specs.Tables.{frequencyColumn}
+use Rattle.writing.specs.Written.{Words, written, writes}
+use Rattle.writing.specs.Rows.{isDue, formWidth, rowWords}
+use Rattle.writing.proofs.Forms.{form-column}
+use Rattle.writing.proofs.Left.{one-yes, one-no}
 use Rattle.writing.proofs.rows.due_row.Statement.{statement}
 use Rattle.writing.proofs.rows.due_row.Tie as tie
 
+-- row i of the form's table is due
+abbrev due : tie.Start → ℕ → Bool
+due s = isDue (formWidth (s .args .form)) (s .args .rows .now) (s .args .when)
+
+-- the instruction of row i of the form's table
+abbrev words : tie.Start → ℕ → Words
+words s = rowWords (s .args .form) (s .args .rows .now)
+
+-- the test of the row asks whether it is due
+asked : (c : tie.After-row-due) → c .row-due .result ≡ due (c .before .before .before) (c .before .before .before .args .i)
+asked c =
+    let a = c .before .before .before .args in
+    c .row-due .ensures ∙ ap (λ (w : ℕ). isDue w (a .rows .now) (a .when) (a .i)) (c .before .width .ensures)
+
+width-requires : tie.Need-width-requires
+width-requires c κs = search needs
+
 row-due-requires : tie.Need-row-due-requires
-row-due-requires c κs = search needs
+row-due-requires c κs =
+    subst (λ (w : ℕ). Column w frequencyColumn) (sym (c .width .ensures)) (form-column (c .before .before .args .form))
 
-named-requires : tie.Need-named-requires
-named-requires c κs = search needs
-
-add-instruction : tie.Need-add-instruction
-add-instruction c =
-    let a = c .before .before .before .before .before .before .args in
-    record { fits = omega (arith, c .before .before .named .ensures, named-most (a .form .width) (a .form .column) (a .t .now) (a .i), c .before .before .before .before .before .before .pre .0 .base) }
-
-instruction-requires : tie.Need-instruction-requires
-instruction-requires c κs =
-    let s = c .before .before .before .before .before .before in
-    let a = s .args in
-    (s .pre .1, (s .pre .0 .number, (omega (arith, c .before .before .named .ensures, named-most (a .form .width) (a .form .column) (a .t .now) (a .i), s .pre .0 .base), omega arith)))
+row-requires : tie.Need-row-requires
+row-requires c κs = search needs
 
 same-length : tie.Need-same-length
 same-length c = search needs
 
 returns : tie.Need-returns
 returns c =
-    let a = c .before .before .before .before .before .before .before .before .before .args in
-    let row = rowWords (a .form) (a .t .now) in
-    let due = isDue (a .form .width) (a .t .now) (a .when) in
-    c .before .before .instruction .ensures
+    let d = c .before .before .before .before .before in
+    let s = d .before .before .before in
+    let a = s .args in
+    c .before .before .row .ensures
     ∙ ap (λ (os : List Words). writes os (written (a .code .now) (a .at)))
-    (ap (λ (n : ℕ). instruction (a .form .number) (a .form .base + n) 0 ∷ []) (c .before .before .before .before .before .named .ensures)
-    ∙ sym (one-yes due row (a .i) (sym (c .before .before .before .before .before .before .before .row-due .ensures) ∙ c .before .before .before .before .before .before .if1 .taken)))
+    (sym (one-yes (due s) (words s) (a .i) (sym (asked d) ∙ c .before .before .before .before .if1 .taken)))
 
 returns-2 : tie.Need-returns-2
 returns-2 c =
-    let a = c .before .before .before .args in
-    let row = rowWords (a .form) (a .t .now) in
-    let due = isDue (a .form .width) (a .t .now) (a .when) in
+    let s = c .before .before .before .before in
+    let a = s .args in
     ap (λ (os : List Words). writes os (written (a .code .now) (a .at)))
-    (sym (one-no due row (a .i) (sym (c .before .row-due .ensures) ∙ c .if1 .left)))
+    (sym (one-no (due s) (words s) (a .i) (sym (asked (c .before)) ∙ c .if1 .left)))
 
 pub due-row-spec : {M : Type 1} → statement M
 due-row-spec =
     tie.close
-    (tie.spec
-    row-due-requires
-    named-requires
-    add-instruction
-    instruction-requires
-    same-length
-    returns
-    returns-2)
+    (tie.spec width-requires row-due-requires row-requires same-length returns returns-2)

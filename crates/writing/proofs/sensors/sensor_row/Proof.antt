@@ -1,4 +1,4 @@
--- `writing::sensors::sensor_row` meets its contract: the row says the port's kind. Assumes nothing.
+-- `writing::sensors::sensor_row` meets its contract: the row says the port's kind.
 use mathlib.Core.Path.{sym, ap, _∙_}
 use mathlib.Core.List.{List}
 use borrow.Author.Needs.{needs}
@@ -10,14 +10,11 @@ use Rattle.writing.proofs.Left.{one-yes, one-no}
 use Rattle.writing.proofs.sensors.sensor_row.Statement.{statement}
 use Rattle.writing.proofs.sensors.sensor_row.Tie as tie
 
-field-requires : tie.Need-field-requires
-field-requires c κs = search needs
+kind-requires : tie.Need-kind-requires
+kind-requires c κs = search needs
 
-add-instruction : tie.Need-add-instruction
-add-instruction c = search needs
-
-instruction-requires : tie.Need-instruction-requires
-instruction-requires c κs = search needs
+sensor-call-requires : tie.Need-sensor-call-requires
+sensor-call-requires c κs = search needs
 
 same-length : tie.Need-same-length
 same-length c = search needs
@@ -25,18 +22,18 @@ same-length c = search needs
 returns : tie.Need-returns
 returns c =
     let a = c .before .before .before .before .before .before .before .args in
-    c .before .before .instruction .ensures
+    c .before .before .sensor-call .ensures
     ∙ ap (λ (os : List Words). writes os (written (a .code .now) (a .at)))
-    (sym (one-yes (isSensor (a .ports .now)) reading (a .p)
-    (eq-eqb _ _ (sym (c .before .before .before .before .before .field .ensures) ∙ c .before .before .before .before .if1 .taken))))
+    (sym (one-yes (isSensor (a .ports .now)) reading (a .p .0)
+    (eq-eqb _ _ (sym (c .before .before .before .before .before .kind .ensures) ∙ c .before .before .before .before .if1 .taken))))
 
 returns-2 : tie.Need-returns-2
 returns-2 c =
     let a = c .before .before .before .args in
     ap (λ (os : List Words). writes os (written (a .code .now) (a .at)))
-    (sym (one-no (isSensor (a .ports .now)) reading (a .p) (ne-eqb _ _ (λ e. c .if1 .left (c .before .field .ensures ∙ e)))))
+    (sym (one-no (isSensor (a .ports .now)) reading (a .p .0) (ne-eqb _ _ (λ e. c .if1 .left (c .before .kind .ensures ∙ e)))))
 
 pub sensor-row-spec : {M : Type 1} → statement M
 sensor-row-spec =
     tie.close
-    (tie.spec field-requires add-instruction instruction-requires same-length returns returns-2)
+    (tie.spec kind-requires sensor-call-requires same-length returns returns-2)

@@ -1,4 +1,4 @@
--- `writing::switches::stub_row` meets its contract: the row says driver and target. Assumes nothing.
+-- `writing::switches::stub_row` meets its contract: the row says driver and target.
 use Prim.Native.Nat.{ℕ, _≤_}
 use mathlib.Core.Path.{_≡_, sym, ap, ap₂, subst, _∙_}
 use mathlib.Core.List.{List, [], _∷_, map}

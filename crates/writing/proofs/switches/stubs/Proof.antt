@@ -1,4 +1,4 @@
--- `writing::switches::stubs` meets its contract: what was written and what is left are all. Assumes nothing.
+-- `writing::switches::stubs` meets its contract: what was written and what is left are all.
 use Prim.Native.Nat.{ℕ, _-_}
 use mathlib.Core.List.{List, map}
 use native.Mathlib.Omega.{arith}
@@ -16,7 +16,7 @@ use Rattle.writing.proofs.Tests.{stubsLeft, stubs-all, stubs-few, stubs
 use Rattle.writing.proofs.switches.stubs.Statement.{statement}
 use Rattle.writing.proofs.switches.stubs.Tie as tie
 
--- what is left from row i on
+-- what is left to write from row i on
 abbrev rest : List ℤ → Instant → List ℕ → ℕ → ℕ → List Words
 rest switches when entries i a = stubsLeft (isDue switchWidth switches when) (switchIn switches) (rowsIn switchWidth switches) entries i
 

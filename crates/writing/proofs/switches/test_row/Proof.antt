@@ -1,13 +1,13 @@
--- `writing::switches::test_row` meets its contract: the row says the driver. Assumes nothing.
+-- `writing::switches::test_row` meets its contract: the row says the driver.
 use Prim.Native.Nat.{ℕ}
-use mathlib.Core.Path.{_≡_, sym, ap, _∙_}
+use mathlib.Core.Path.{sym, ap, _∙_}
 use mathlib.Core.List.{List, [], _∷_, map}
 use borrow.Author.Needs.{needs}
 use Rattle.program.specs.Tables.{switchWidth}
 use Rattle.program.specs.Program.{Switch}
 use Rattle.code.specs.Listing.{testsOf}
-use Rattle.code.specs.Op.{ifNumber}
-use Rattle.writing.specs.Written.{Words, instruction, three, written, writes}
+use Rattle.code.specs.Op.{branch}
+use Rattle.writing.specs.Written.{Words, three, written, writes}
 use Rattle.writing.specs.Rows.{isDue}
 use Rattle.writing.specs.Switches.{switchIn}
 use Rattle.writing.proofs.Left.{one-yes, one-no}
@@ -20,25 +20,22 @@ row-due-requires c κs = search needs
 driver-requires : tie.Need-driver-requires
 driver-requires c κs = search needs
 
-index-requires : tie.Need-index-requires
-index-requires c κs = search needs
-
-instruction-requires : tie.Need-instruction-requires
-instruction-requires c κs = search needs
+test-requires : tie.Need-test-requires
+test-requires c κs = search needs
 
 same-length : tie.Need-same-length
 same-length c = search needs
 
 returns : tie.Need-returns
 returns c =
-    let a = c .before .before .before .before .before .before .before .before .before .args in
+    let d = c .before .before .before .before in
+    let a = d .before .before .before .before .args in
     let due = isDue switchWidth (a .switches .now) (a .when) in
     let row = switchIn (a .switches .now) in
-    let driver : c .before .before .before .before .before .driver .result .0 ≡ row (a .i) .driver = c .before .before .before .before .before .driver .ensures in
-    c .before .before .instruction .ensures
+    c .before .before .test .ensures
     ∙ ap (λ (os : List Words). writes os (written (a .code .now) (a .at)))
-    (ap (λ (n : ℕ). instruction ifNumber n (a .stub) ∷ []) (c .before .before .before .index .ensures ∙ driver)
-    ∙ ap (λ (ws : List Switch). map three (testsOf ws (a .stub))) (sym (one-yes due row (a .i) (sym (c .before .before .before .before .before .before .before .row-due .ensures) ∙ c .before .before .before .before .before .before .if1 .taken))))
+    (ap (λ (n : ℕ). three (branch n (a .stub)) ∷ []) (d .driver .ensures)
+    ∙ ap (λ (ws : List Switch). map three (testsOf ws (a .stub))) (sym (one-yes due row (a .i) (sym (d .before .before .row-due .ensures) ∙ d .before .if1 .taken))))
 
 returns-2 : tie.Need-returns-2
 returns-2 c =
@@ -53,8 +50,7 @@ test-row-spec =
     (tie.spec
     row-due-requires
     driver-requires
-    index-requires
-    instruction-requires
+    test-requires
     same-length
     returns
     returns-2)

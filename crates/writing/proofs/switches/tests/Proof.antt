@@ -1,4 +1,4 @@
--- `writing::switches::tests` meets its contract: what was written and what is left are all. Assumes nothing.
+-- `writing::switches::tests` meets its contract: what was written and what is left are all.
 use Prim.Native.Nat.{ℕ, _+_, _-_, _*_, _≤_}
 use mathlib.Core.List.{List, map}
 use native.Mathlib.Omega.{arith}
@@ -17,7 +17,7 @@ use Rattle.writing.proofs.Tests.{testsLeft, tests-all, tests-few, tests
 use Rattle.writing.proofs.switches.tests.Statement.{statement}
 use Rattle.writing.proofs.switches.tests.Tie as tie
 
--- what is left from row i on
+-- what is left to write from row i on
 abbrev rest : List ℤ → Instant → ℕ → ℕ → ℕ → ℕ → List Words
 rest switches when stub from = testsLeft (isDue switchWidth switches when) (switchIn switches) (rowsIn switchWidth switches) stub from
 
@@ -27,7 +27,7 @@ Inv-loop code₀ at switches when stub n next₀ i₀ code next i = Left (rest s
 abbrev μ-loop : tie.MeasureT-loop
 μ-loop code₀ at switches when stub n next₀ i₀ code next i = rowsIn switchWidth switches - i
 
--- the loop is no further on than it has passed rows
+-- the next address is no further on than there are rows
 near : (c : tie.At-loop Inv-loop μ-loop) → c .loop .next ≤ c .before .before .args .at + rowsIn switchWidth (c .before .before .args .switches .now)
 near c =
     let a = c .before .before .args in

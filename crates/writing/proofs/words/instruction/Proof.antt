@@ -1,4 +1,4 @@
--- `writing::words::instruction` meets its contract: three words, one after the other. Assumes nothing.
+-- `writing::words::instruction` meets its contract: three words, one after the other.
 use Prim.Native.Nat.{suc, _+_, _*_}
 use mathlib.Core.Path.{_≡_, refl}
 use native.Mathlib.Omega.{arith}

@@ -1,4 +1,4 @@
--- `intake::state::Intake::complete` meets its contract: the tests of `isComplete`. Assumes nothing.
+-- `intake::state::Intake::complete` meets its contract: the tests of `isComplete`.
 use mathlib.Core.Path.{refl}
 use Rattle.intake.specs.Line.{isComplete}
 use Rattle.intake.proofs.state.Intake.complete.Statement.{statement}

@@ -1,4 +1,4 @@
--- `intake::state::Intake::decided` meets its contract: the tests of `isDecided`. Assumes nothing.
+-- `intake::state::Intake::decided` meets its contract: the tests of `isDecided`.
 use mathlib.Core.Path.{refl}
 use Rattle.intake.specs.Line.{isDecided}
 use Rattle.intake.proofs.state.Intake.decided.Statement.{statement}

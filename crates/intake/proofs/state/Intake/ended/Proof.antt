@@ -1,4 +1,4 @@
--- `intake::state::Intake::ended` meets its contract: the two cases of `endedOf`. Assumes nothing.
+-- `intake::state::Intake::ended` meets its contract: the two cases of `endedOf`.
 use mathlib.Core.Path.{refl}
 use borrow.Author.Needs.{needs}
 use Rattle.intake.specs.Bytes.{endedOf}

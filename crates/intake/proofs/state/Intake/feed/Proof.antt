@@ -1,4 +1,4 @@
--- `intake::state::Intake::feed` meets its contract: a line end, or a byte of the line. Assumes nothing.
+-- `intake::state::Intake::feed` meets its contract: a line end, or a byte of the line.
 use mathlib.Core.Path.{refl}
 use borrow.Author.Needs.{needs}
 use borrow.Author.Tests.{eq-eqb, ne-eqb}

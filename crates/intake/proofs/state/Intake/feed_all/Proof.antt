@@ -1,5 +1,5 @@
 -- `intake::state::Intake::feed_all` meets its contract. The loop's invariant: the bytes that are left, fed to what there is, come to
--- what all bytes come to. The measure is what is left of them. Assumes nothing.
+-- what all bytes come to. The measure is what is left of them.
 use Prim.Native.Nat.{_+_, _-_}
 use mathlib.Core.Path.{_≡_, refl, sym, ap, _∙_}
 use native.Mathlib.Omega.{arith}

@@ -1,4 +1,4 @@
--- `intake::state::Intake::new` meets its contract: nothing was read. Assumes nothing.
+-- `intake::state::Intake::new` meets its contract: nothing was read.
 use mathlib.Core.Path.{refl}
 use borrow.Author.Needs.{needs}
 use Rattle.intake.proofs.state.Intake.new.Statement.{statement}

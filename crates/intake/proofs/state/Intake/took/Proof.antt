@@ -1,4 +1,4 @@
--- `intake::state::Intake::took` meets its contract: the cases of `tookOf`. Assumes nothing.
+-- `intake::state::Intake::took` meets its contract: the cases of `tookOf`.
 use mathlib.Core.Path.{sym, ap, _∙_}
 use denote.Ref.{now}
 use borrow.Author.Needs.{needs}

@@ -1,4 +1,4 @@
--- `text::decimal::Digits::of` meets its contract: the digits are written from the last to the first. Assumes nothing.
+-- `text::decimal::Digits::of` meets its contract: the digits are written from the last to the first.
 use native.Mathlib.Omega.{arith}
 use lib.ListN.{length-set}
 use borrow.Author.Needs.{needs}

@@ -1,4 +1,4 @@
--- `text::line::Line::argument` meets its contract: a space, then the number. Assumes nothing.
+-- `text::line::Line::argument` meets its contract: a space, then the number.
 use mathlib.Core.Path.{subst}
 use mathlib.Core.List.{[], _∷_}
 use borrow.Author.Needs.{needs}

@@ -1,4 +1,4 @@
--- `text::line::Line::new` meets its contract: none of its bytes are said, and all are zeros. Assumes nothing.
+-- `text::line::Line::new` meets its contract: none of its bytes are said, and all are zeros.
 use mathlib.Core.Path.{refl}
 use Rattle.text.specs.Line.{textOf}
 use Rattle.text.proofs.line.Line.new.Statement.{statement}

@@ -1,4 +1,4 @@
--- `text::line::Line::number` meets its contract: the digits at the end of their room are appended. Assumes nothing.
+-- `text::line::Line::number` meets its contract: the digits at the end of their room are appended.
 use Prim.Native.Nat.{_-_, _≤_}
 use mathlib.Core.Path.{subst, _∙_}
 use native.Mathlib.Omega.{arith}

@@ -1,4 +1,4 @@
--- `text::line::Line::push` meets its contract: the byte is put behind those that are said. Assumes nothing.
+-- `text::line::Line::push` meets its contract: the byte is put behind those that are said.
 use mathlib.Core.Path.{_≡_}
 use native.Mathlib.Omega.{arith}
 use lib.ListN.{length}

@@ -1,4 +1,4 @@
--- `text::line::Line::word` meets its contract: after i turns the first i bytes are appended. Assumes nothing.
+-- `text::line::Line::word` meets its contract: after i turns the first i bytes are appended.
 use Prim.Native.Nat.{_-_, _≤_}
 use native.Mathlib.Omega.{arith}
 use borrow.Author.Needs.{needs}

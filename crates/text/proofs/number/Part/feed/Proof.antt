@@ -1,4 +1,4 @@
--- `text::number::Part::feed` meets its contract: a digit is below 10, and ten times a held number fits. Assumes nothing.
+-- `text::number::Part::feed` meets its contract: a digit is below 10, and ten times a held number fits.
 use mathlib.Core.Path.{refl}
 use native.Mathlib.Omega.{arith}
 use borrow.Author.Needs.{needs}

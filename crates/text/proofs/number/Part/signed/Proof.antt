@@ -1,4 +1,4 @@
--- `text::number::Part::signed` meets its contract: the tests of `signedOf`, in another order. Assumes nothing.
+-- `text::number::Part::signed` meets its contract: the tests of `signedOf`, in another order.
 use Rattle.theory.proofs.Conditions.{cond-same}
 use borrow.Author.Needs.{needs}
 use mathlib.Core.Path.{sym}

@@ -1,4 +1,4 @@
--- `text::number::Part::word` meets its contract: the tests of `wordIn`, in its order. Assumes nothing.
+-- `text::number::Part::word` meets its contract: the tests of `wordIn`, in its order.
 use borrow.Author.Needs.{needs}
 use Rattle.text.specs.Part.{wordIn}
 use Rattle.text.proofs.number.Part.word.Statement.{statement}

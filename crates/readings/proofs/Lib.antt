@@ -1,0 +1,2 @@
+-- Laws of readings that belong to no one function. Crates above cite them.
+pub mod Readings

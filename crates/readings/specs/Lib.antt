@@ -1,0 +1,2 @@
+-- A reading, and when it lies in an interval.
+pub mod Reading

@@ -1,0 +1,102 @@
+-- The tests of slices and rows by the place of their table: numbers 1 and 2 as searches of the places.
+use Prim.Native.Nat.{ℕ, zero, suc, _≤_, _<_}
+use mathlib.Core.Path.{_≡_, refl, sym, ap, _∙_}
+use mathlib.Core.Bool.{Bool, false, _||_}
+use mathlib.Core.List.{List, [], _∷_}
+use mathlib.Core.Logic.{⊎-elim}
+use native.Mathlib.Nat.{eq-or-lt-of-le}
+use native.Mathlib.Omega.{arith}
+use lib.Dec.{eqb}
+use lib.IntN.{ℤ}
+use lib.ListN.{getD, List·getD-eq-default}
+use denote.Ref.{RefT}
+use Rattle.theory.specs.Search.{any}
+use Rattle.cells.specs.Cell.{unnamed, nameOf}
+use Rattle.cells.specs.Limits.{tableCount, maxPorts, maxTasks, maxTaskPorts, maxDrivers, maxCopies, maxModes}
+use Rattle.cells.specs.Limits.{maxModePorts, maxInvocations, maxUpdates, maxSwitches}
+use Rattle.cells.proofs.Names.{name-small}
+use Rattle.program.specs.Tables.{Tables, tableAt, tablesIn, rowsAt, portWidth, portCount, taskWidth, taskCount, driverWidth, driverCount}
+use Rattle.program.specs.Tables.{modeWidth, modeCount}
+use Rattle.program.proofs.Places.{widths}
+use Rattle.rules.specs.Shape.{badSlice, shapeBad}
+use Rattle.rules.specs.Fields.{startBad, fieldsBad}
+use Rattle.rules.proofs.Shape.{whole-few, shape-bars}
+use Rattle.rules_1_2.specs.Rows.{rowTests, rowBad}
+
+-- what the test of a table says of a row is what the test of its place says
+pub row-at : (T : Tables) (place row : ℕ) {k : ℕ} {b : Bool} → place ≡ k
+    → b ≡ getD (rowTests T) k (λ j. false) row → b ≡ rowBad T place row
+unfolding rowBad
+row-at T place row e h = h ∙ sym (ap (λ (k : ℕ). rowBad T k row) e)
+
+-- what the test of the place says of a row whose table has fewer rows than a kind can name: the row is the one that it names
+pub kind-at : (T : Tables) (place row : ℕ) {k name : ℕ} {b : Bool} → place ≡ k → rowsAt T k < unnamed → row < rowsAt T place
+    → name ≡ nameOf row → b ≡ getD (rowTests T) k (λ j. false) name → b ≡ rowBad T place row
+kind-at T place row {k} e few l m h =
+    let same : rowsAt T place ≡ rowsAt T k = ap (rowsAt T) e in
+    row-at T place row e (h ∙ ap (getD (rowTests T) k (λ j. false)) (m ∙ name-small row (omega (arith, few, l, same))))
+
+-- a program in shape has fewer ports than a kind can name
+pub few-ports : (T : Tables) → shapeBad T ≡ false → portCount T < unnamed
+few-ports T e = omega (arith, whole-few portWidth maxPorts (T .ports) (shape-bars T .ok e .ports))
+
+-- a program in shape has fewer tasks than a kind can name
+pub few-tasks : (T : Tables) → shapeBad T ≡ false → taskCount T < unnamed
+few-tasks T e = omega (arith, whole-few taskWidth maxTasks (T .tasks) (shape-bars T .ok e .tasks))
+
+-- a program in shape has fewer drivers than a kind can name
+pub few-drivers : (T : Tables) → shapeBad T ≡ false → driverCount T < unnamed
+few-drivers T e = omega (arith, whole-few driverWidth maxDrivers (T .drivers) (shape-bars T .ok e .drivers))
+
+-- a program in shape has fewer modes than a kind can name
+pub few-modes : (T : Tables) → shapeBad T ≡ false → modeCount T < unnamed
+few-modes T e = omega (arith, whole-few modeWidth maxModes (T .modes) (shape-bars T .ok e .modes))
+
+-- at a place past the last table no row is bad
+pub row-past : (T : Tables) (place row : ℕ) → tableCount ≤ place → rowBad T place row ≡ false
+unfolding rowBad
+row-past T place row h = λ i. List·getD-eq-default (rowTests T) (λ j. false) h i row
+
+-- the number k is none of those below n, as a `match` leaves it
+abbrev pub NoneBelow : ℕ → ℕ → Type 0
+NoneBelow zero k = Unit {0}
+NoneBelow (suc n) k = NoneBelow n k × (k ≡ n → ⊥)
+
+-- a number that is none of those below n is at least n
+pub none-below : (n k : ℕ) → NoneBelow n k → n ≤ k
+none-below zero k h = omega arith
+none-below (suc n) k h = ⊎-elim (λ e. absurd (h .1 (sym e))) (λ l. l) (eq-or-lt-of-le (none-below n k (h .0)))
+
+-- the most rows of each table, in the order of the tables
+abbrev limits : List ℕ
+limits =
+    maxPorts
+    ∷ maxTasks
+    ∷ maxTaskPorts
+    ∷ maxDrivers
+    ∷ maxCopies
+    ∷ maxModes
+    ∷ maxModePorts
+    ∷ maxInvocations
+    ∷ maxUpdates
+    ∷ maxSwitches
+    ∷ []
+
+-- the table at a place does not have its shape
+abbrev pub sliceBad : List (RefT (List ℤ)) → ℕ → Bool
+sliceBad lent place = badSlice (getD widths place 0) (getD limits place 0) (tableAt lent place)
+
+-- number 1: the table at some place does not have its shape, or there is no mode
+pub shape-by-place : (lent : List (RefT (List ℤ))) (start : ℤ)
+    → (any (sliceBad lent) tableCount || eqb (modeCount (tablesIn lent start)) 0) ≡ shapeBad (tablesIn lent start)
+unfolding any shapeBad
+shape-by-place lent start = refl
+
+-- some row of the table at a place is bad
+abbrev pub tableBad : Tables → ℕ → Bool
+tableBad T place = any (rowBad T place) (rowsAt T place)
+
+-- number 2: some row of the table at some place is bad, or the start mode is
+pub fields-by-place : (T : Tables) → (any (tableBad T) tableCount || startBad T) ≡ fieldsBad T
+unfolding any rowBad fieldsBad
+fields-by-place T = refl

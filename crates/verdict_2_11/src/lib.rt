@@ -1,0 +1,37 @@
+// Numbers 2 to 11, for every call that is lent the tables and more: its own 1 comes before them, numbers of its own behind.
+ghost use mathlib.Core.Path.{_≡_};
+ghost use lib.IntN.{ℤ};
+ghost use Rattle.program.specs.Tables.{tablesIn};
+ghost use Rattle.rules.specs.Shape.{InShape};
+ghost use Rattle.code.specs.Compile.{codeLong};
+ghost use Rattle.verdict_2_11.specs.Tables.{tablesAndCodeVerdict};
+use cells::limits::Program;
+use cells::refusals;
+use cells::tables;
+use layout::addresses;
+use layout::counts;
+
+// Number 11 applies: the E code exceeds the limit. The code is counted, not written.
+fn code_long(tables: &[&[i32]; Program::TABLES]) -> bool
+    requires { ⌜ InShape (now tables) ⌝ }
+    ensures { λ r. ⌜ ((start : ℤ) → r ≡ codeLong (tablesIn (now (tables .entry)) start)) ⌝ }
+{
+    let sensors = counts::sensors(tables[tables::PORTS]);
+    let laid = addresses::lay_out(tables, sensors);
+    Program::CODE < laid.length
+}
+
+// The first of numbers 2 to 11 that applies to tables that have their shape.
+pub fn tables_and_code(tables: &[&[i32]; Program::TABLES], program: Program) -> usize
+    requires { ⌜ InShape (now tables) ⌝ }
+    ensures { λ r. ⌜ r ≡ tablesAndCodeVerdict (tablesIn (now (tables .entry)) (program .start)) ⌝ }
+{
+    let number = verdict::table_verdict(tables, program);
+    if refusals::ACCEPTED < number {
+        return number;
+    }
+    if code_long(tables) {
+        return refusals::CODE;
+    }
+    refusals::ACCEPTED
+}
