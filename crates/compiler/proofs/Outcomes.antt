@@ -23,18 +23,18 @@ use Rattle.layout.specs.declared.addresses.Layout.{Layout}
 use Rattle.layout.specs.Layout.{LaidOut}
 use Rattle.writing.specs.Written.{Words, three, Written, written, writes}
 use Rattle.compiler.specs.Modes.{allIn}
-use Rattle.compiler.specs.Listed.{compiling, Outcome, outcome, compiled, refused, accepted, listed}
+use Rattle.compiler.specs.Listed.{compiling, Compilation, outcome, compiled, refused, accepted, listed}
 use Rattle.writing.proofs.Written.{writes-emit}
 use Rattle.compiler.proofs.Listed.{all-same}
 
 module _ (L : Compiling) where
   -- where number 11 applies, the outcome is its refusal
   pub listed-refused : (codeLong (L .tables) || sliceShort L) ≡ true → refused L codeRefused ≡ listed L
-  listed-refused e = ap (λ (b : Bool). elim b as (λ b. Outcome) [ true ↦ refused L codeRefused | false ↦ accepted L ]) (sym e)
+  listed-refused e = ap (λ (b : Bool). elim b as (λ b. Compilation) [ true ↦ refused L codeRefused | false ↦ accepted L ]) (sym e)
 
   -- where number 11 does not apply, the outcome is the listing
   pub listed-accepted : (codeLong (L .tables) || sliceShort L) ≡ false → accepted L ≡ listed L
-  listed-accepted e = ap (λ (b : Bool). elim b as (λ b. Outcome) [ true ↦ refused L codeRefused | false ↦ accepted L ]) (sym e)
+  listed-accepted e = ap (λ (b : Bool). elim b as (λ b. Compilation) [ true ↦ refused L codeRefused | false ↦ accepted L ]) (sym e)
 
   -- number 11 is told from the listing's length
   pub long-told : (n : ℕ) → n ≡ length (listingOf (L .tables))
@@ -50,7 +50,7 @@ module _ (L : Compiling) where
       ∙ ap (λ (n : ℕ). after n (verdict sliceRefusals L)) (verdict-within (λ (L : Compiling). L .tables) (shapeRefusal ∷ tableRefusals) L)
 
   -- the outcome of compiling with this number
-  abbrev by : ℕ → Outcome
+  abbrev by : ℕ → Compilation
   by v =
       outcome (elim v as (λ v. Compiled) [ zero ↦ accepted L .answer | suc n ↦ refused L (suc n) .answer ])
       (elim v as (λ v. List ℕ) [ zero ↦ accepted L .slice | suc n ↦ L .slice ])
@@ -66,7 +66,7 @@ module _ (L : Compiling) where
       go (codeLong (L .tables) || sliceShort L) ∙ ap by (sym (verdict-first ∙ ap (λ (k : ℕ). after k (verdict sliceRefusals L)) e))
     where
       go : (b : Bool)
-          → elim b as (λ b. Outcome) [ true ↦ refused L codeRefused | false ↦ accepted L ] ≡ by (orElse b codeRefused acceptedNumber)
+          → elim b as (λ b. Compilation) [ true ↦ refused L codeRefused | false ↦ accepted L ] ≡ by (orElse b codeRefused acceptedNumber)
       go true = refl
       go false = refl
 

@@ -16,28 +16,28 @@ abbrev pub compiling : Tables → List ℕ → Compiling
 compiling T slice = record { tables = T; slice = slice }
 
 -- an answer, and the slice as it is left
-pub record Outcome : Type 0 where
+pub record Compilation : Type 0 where
   pub answer : Compiled
   pub slice : List ℕ
 
 -- an outcome from its answer and its slice
-abbrev pub outcome : Compiled → List ℕ → Outcome
+abbrev pub outcome : Compiled → List ℕ → Compilation
 outcome answer slice = record { answer = answer; slice = slice }
 
 -- the outcome of compiling
-abbrev pub compiled : Compiling → Outcome
+abbrev pub compiled : Compiling → Compilation
 compiled L = outcome (compileAnswer L) (compileSlice L)
 
 -- the outcome of a refusal: no length, and the slice as it was
-abbrev pub refused : Compiling → ℕ → Outcome
+abbrev pub refused : Compiling → ℕ → Compilation
 refused L n = outcome (record { number = n; length = 0 }) (L .slice)
 
 -- the outcome of an accepted program: its listing is written, the rest of the slice stays as it was
-abbrev pub accepted : Compiling → Outcome
+abbrev pub accepted : Compiling → Compilation
 accepted L =
     outcome (record { number = acceptedNumber; length = length (listingOf (L .tables)) })
     (emit (listingOf (L .tables)) ++ drop (wordsEach * length (listingOf (L .tables))) (L .slice))
 
 -- the outcome of a program that numbers 1 to 10 pass: number 11, or the listing
-abbrev pub listed : Compiling → Outcome
+abbrev pub listed : Compiling → Compilation
 listed L = elim (codeLong (L .tables) || sliceShort L) [ true ↦ refused L codeRefused | false ↦ accepted L ]

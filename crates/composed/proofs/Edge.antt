@@ -33,7 +33,7 @@ use Rattle.machine.specs.declared.State.{State}
 use Rattle.machine.specs.Advance.{stateOf}
 use Rattle.compiled.specs.Done.{seen, local, AtBlock}
 use Rattle.composed.specs.Sound.{Sound}
-use Rattle.composed.specs.Related.{OwnedBy, tasksOf, Fresh, worstRun, Going}
+use Rattle.composed.specs.Related.{OwnedBy, tasksOf, NotBegun, worstRun, Going}
 use Rattle.composed.proofs.Copied.{copied-same, copied-held}
 
 module _ (T : Tables) (W S : List ℤ) (F : Function) where
@@ -101,7 +101,7 @@ module _ (T : Tables) (W S : List ℤ) (F : Function) where
         none [] = refl
         none (t ∷ ts) = none ts
 
-    pub fresh-edge : (n : ℕ) (C : Configuration) (s : State) → Fresh P F n C s → Edge n C s
+    pub fresh-edge : (n : ℕ) (C : Configuration) (s : State) → NotBegun P F n C s → Edge n C s
     fresh-edge n C s f =
         subst (λ (k : ℕ). Edge k C s) (sym (f .no-tick))
         (subst (λ (D : Configuration). Edge 0 D s) (sym (f .initially)) (subst (Edge 0 (initial P F)) (sym (f .is-fresh)) first-edge))

@@ -17,7 +17,7 @@ use Rattle.cells.specs.Limits.{suppliers, maxPorts, maxTasks}
 use Rattle.program.specs.Tables.{Tables}
 use Rattle.program.specs.Program.{Program, programOf, task}
 use Rattle.program.specs.Ports.{valueOf}
-use Rattle.runs.specs.Tick.{leftOf, after, tick}
+use Rattle.runs.specs.Tick.{leftOf, leftAfter, tick}
 use Rattle.runs.specs.Schedule.{blockOf}
 use Rattle.runs.specs.Dominated.{AtMost, Dominated}
 use Rattle.runs.proofs.Tick.{tick-among}
@@ -39,7 +39,7 @@ module _ (T : Tables) (W S : List ℤ) (F : Function) (sound : Sound T W S) (k n
   P = programOf T
 
   -- after a tick each supplier stays ahead of its worst-case run alone
-  ahead-next : (r : List ℕ) (j : ℕ) → j < suppliers → AtMost (OwnedBy P j) r (after (actOf S u j) (u .left))
+  ahead-next : (r : List ℕ) (j : ℕ) → j < suppliers → AtMost (OwnedBy P j) r (leftAfter (actOf S u j) (u .left))
       → Dominated (OwnedBy P j) (blockOf S j (u .current)) (u .elapsed + 1)
       (record { position = getD (each (movedOf S u) suppliers 0) j 0; left = r }) (worstRun T W S F j (C .mode) k (u .elapsed + 1))
   ahead-next r j l w =
@@ -59,7 +59,7 @@ module _ (T : Tables) (W S : List ℤ) (F : Function) (sound : Sound T W S) (k n
   -- after a tick with these remaining times and local outputs the unit goes on
   pub passing : (r : List ℕ) (o : List ℤ) → length r ≡ maxTasks → length o ≡ maxPorts
       → ((t : ℕ) → leftOf r t ≤ leftOf (u .left) t)
-      → ((j : ℕ) → j < suppliers → AtMost (OwnedBy P j) r (after (actOf S u j) (u .left)))
+      → ((j : ℕ) → j < suppliers → AtMost (OwnedBy P j) r (leftAfter (actOf S u j) (u .left)))
       → ((t p : ℕ) → member t (tasksOf P (C .mode)) ≡ true → leftOf r t ≡ 0 → member p (task P t .outputs) ≡ true
       → valueOf o p ≡ results P F (C .ports) t p)
       → Going T W S F k (suc n) C (afterTick S u r o)

@@ -19,7 +19,7 @@ use Rattle.program.specs.Ports.{valueOf, valuesOf}
 use Rattle.program.proofs.Decoded.{output-declared}
 use Rattle.rules.proofs.Shape.{ports-few}
 use Rattle.rules.proofs.Accepted.{accepted-shaped}
-use Rattle.runs.specs.Tick.{leftOf, Act, work, after}
+use Rattle.runs.specs.Tick.{leftOf, Act, work, leftAfter}
 use Rattle.runs.specs.Schedule.{blockOf}
 use Rattle.runs.proofs.Tick.{tick-busy, after-less, rests}
 use Rattle.giotto.specs.Instant.{Configuration, Function, results}
@@ -66,24 +66,24 @@ module _ (T : Tables) (W S : List ℤ) (F : Function) (sound : Sound T W S) (k n
         go false z = absurd (omega (arith, busy, h .others t z))
 
     -- what a tick in which a task runs does to the state
-    worked : Worked P given t u (afterTick S u (after (work t) (u .left)) (outputsAfter P given u t))
+    worked : Worked P given t u (afterTick S u (leftAfter (work t) (u .left)) (outputsAfter P given u t))
     worked =
-        let v = afterTick S u (after (work t) (u .left)) (outputsAfter P given u t) in
+        let v = afterTick S u (leftAfter (work t) (u .left)) (outputsAfter P given u t) in
         subst (λ (w : Who). Works P given w u v) e (tick-passes P S given u v (ap (ticked P S given u) e) .works)
 
     -- no supplier's tasks owe more than after the supplier's own act
-    own : (j : ℕ) → j < suppliers → (x : ℕ) → leftOf (after (work t) (u .left)) x ≤ leftOf (after (actOf S u j) (u .left)) x
+    own : (j : ℕ) → j < suppliers → (x : ℕ) → leftOf (leftAfter (work t) (u .left)) x ≤ leftOf (leftAfter (actOf S u j) (u .left)) x
     own j m x = go (runsNow S u j) refl
       where
-        go : (b : Bool) → runsNow S u j ≡ b → leftOf (after (work t) (u .left)) x ≤ leftOf (after (actOf S u j) (u .left)) x
+        go : (b : Bool) → runsNow S u j ≡ b → leftOf (leftAfter (work t) (u .left)) x ≤ leftOf (leftAfter (actOf S u j) (u .left)) x
         go true z =
             let a : actOf S u j ≡ work t = ap (actOf S u) (only j m z) ∙ q in
-            let b = ap (λ (a : Act). leftOf (after a (u .left)) x) a in omega (arith, b)
+            let b = ap (λ (a : Act). leftOf (leftAfter a (u .left)) x) a in omega (arith, b)
         go false z =
             let b = ap (λ (r : List ℕ). leftOf r x) (rests (actOf S u j) (u .left) z) in omega (arith, b, after-less (work t) (u .left) x)
 
     -- a task that completes has its results in its local outputs
-    completed : (p : ℕ) → leftOf (after (work t) (u .left)) t ≡ 0 → member p (task P t .outputs) ≡ true
+    completed : (p : ℕ) → leftOf (leftAfter (work t) (u .left)) t ≡ 0 → member p (task P t .outputs) ≡ true
         → valueOf (outputsAfter P given u t) p ≡ results P F (C .ports) t p
     completed p z m =
         let c : leftOf (u .left) t ≡ 1 = omega (arith, busy, worked .nearer, z) in
@@ -91,23 +91,23 @@ module _ (T : Tables) (W S : List ℤ) (F : Function) (sound : Sound T W S) (k n
         worked .completes c p b m ∙ (fits p c m ∙ ap (λ (v : List ℤ). F t (valuesOf v (task P t .inputs)) p) (h .ports))
 
     -- after the tick every task of the mode that has ended has its results in its local outputs
-    holds : (x p : ℕ) → member x (tasksOf P (C .mode)) ≡ true → leftOf (after (work t) (u .left)) x ≡ 0 → member p (task P x .outputs) ≡ true
+    holds : (x p : ℕ) → member x (tasksOf P (C .mode)) ≡ true → leftOf (leftAfter (work t) (u .left)) x ≡ 0 → member p (task P x .outputs) ≡ true
         → valueOf (outputsAfter P given u t) p ≡ results P F (C .ports) x p
     holds x p w z m = go (ℕ-discrete x t)
       where
         go : Dec (x ≡ t) → valueOf (outputsAfter P given u t) p ≡ results P F (C .ports) x p
         go (yes d) =
             subst (λ (y : ℕ). valueOf (outputsAfter P given u t) p ≡ results P F (C .ports) y p) (sym d)
-            (completed p (subst (λ (y : ℕ). leftOf (after (work t) (u .left)) y ≡ 0) d z) (subst (λ (y : ℕ). member p (task P y .outputs) ≡ true) d m))
+            (completed p (subst (λ (y : ℕ). leftOf (leftAfter (work t) (u .left)) y ≡ 0) d z) (subst (λ (y : ℕ). member p (task P y .outputs) ≡ true) d m))
         go (no d) =
             worked .stays p (inl (is-false (says-itself (member p (task P t .outputs)))
             (λ y. d (tasks-one T (sound .accepted) (C .mode) x t p (h .declared) w in-mode m y))))
             ∙ h .held x p w (sym (worked .others x d) ∙ z) m
 
     -- after a tick in which one task runs the unit goes on
-    one-ticked : Going T W S F k (suc n) C (afterTick S u (after (work t) (u .left)) (outputsAfter P given u t))
+    one-ticked : Going T W S F k (suc n) C (afterTick S u (leftAfter (work t) (u .left)) (outputsAfter P given u t))
     one-ticked =
-        passing T W S F sound k n C u h more (after (work t) (u .left)) (outputsAfter P given u t)
+        passing T W S F sound k n C u h more (leftAfter (work t) (u .left)) (outputsAfter P given u t)
         (length-set (u .left) t _ ∙ h .all-left) (outputs-length P given u t ∙ h .all-outputs) (after-less (work t) (u .left))
         (λ j m x o. own j m x) holds
 
@@ -123,7 +123,7 @@ tick-related T W S F sound k n C u given h more fits = go (running S u) refl (kn
         → (v : State) × (ticked (programOf T) S given u w ≡ ok v) × Going T W S F k (suc n) C v
     go nobody e none = (afterTick S u (u .left) (u .outputs), refl, nobody-ticked T W S F sound k n C u given h more none)
     go (one t) e (i, l, q, only) = (
-      afterTick S u (after (work t) (u .left)) (outputsAfter (programOf T) given u t),
+      afterTick S u (leftAfter (work t) (u .left)) (outputsAfter (programOf T) given u t),
       refl,
       one-ticked T W S F sound k n C u given h more t i l q only e (λ p. fits t p e),
     )

@@ -13,7 +13,7 @@ use Rattle.code.specs.Listing.{futureAddress}
 use Rattle.code.proofs.Place.{future-once}
 use Rattle.giotto.specs.Instant.{Configuration, Function}
 use Rattle.machine.specs.declared.State.{State}
-use Rattle.composed.specs.Related.{tasksOf, Fresh, Going, Related}
+use Rattle.composed.specs.Related.{tasksOf, NotBegun, Going, Related}
 
 module _ (T : Tables) (W S : List ℤ) (F : Function) (n : ℕ) (s : State) where
   abbrev P : Program
@@ -48,7 +48,7 @@ module _ (T : Tables) (W S : List ℤ) (F : Function) (n : ℕ) (s : State) wher
       active = fun-ext (λ t. g .active t ∙ ap (λ (m : ℕ). member t (tasksOf P m)) of-mode ∙ sym (h .active t))
 
   -- no unit goes on with the fresh state: no `future` stands at address 0
-  fresh-not-going : (k : ℕ) (C D : Configuration) → Fresh P F n C s → Going T W S F k n D s → ⊥
+  fresh-not-going : (k : ℕ) (C D : Configuration) → NotBegun P F n C s → Going T W S F k n D s → ⊥
   fresh-not-going k C D f g =
       let z : futureAddress P (D .mode) k ≡ 0 = sym (g .current) ∙ ap (λ (u : State). u .current) (f .is-fresh) in
       omega (arith, z)

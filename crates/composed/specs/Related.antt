@@ -33,7 +33,7 @@ abbrev pub tasksOf : Program → ℕ → List ℕ
 tasksOf P m = dueTasks (mode P m) 0
 
 -- nothing has happened yet: tick 0, the initial configuration and the fresh state
-pub record Fresh (P : Program) (F : Function) (n : ℕ) (C : Configuration) (s : State) : Type 0 where
+pub record NotBegun (P : Program) (F : Function) (n : ℕ) (C : Configuration) (s : State) : Type 0 where
   pub no-tick : n ≡ 0
   pub initially : C ≡ initial P F
   pub is-fresh : s ≡ stateOf (P .first)
@@ -76,4 +76,4 @@ module _ (T : Tables) (W S : List ℤ) (F : Function) where
 
   -- before tick n the configuration C and the state s go together: nothing has happened yet, or a unit goes on
   abbrev pub Related : ℕ → Configuration → State → Type 0
-  Related n C s = Fresh P F n C s ⊎ ((k : ℕ) × Going k n C s)
+  Related n C s = NotBegun P F n C s ⊎ ((k : ℕ) × Going k n C s)

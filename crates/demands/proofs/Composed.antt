@@ -12,7 +12,7 @@ use Rattle.code.specs.Compile.{listingOf}
 use Rattle.code.proofs.Words.{words-are}
 use Rattle.code.proofs.Answers.{compile-passes}
 use Rattle.giotto.specs.Instant.{Configuration, Function}
-use Rattle.giotto.specs.Execution.{pass, portsAt}
+use Rattle.giotto.specs.Execution.{pass, portsInTick}
 use Rattle.machine.specs.Advance.{Lent, advanceAnswer}
 use Rattle.machine.specs.declared.State.{State}
 use Rattle.machine.specs.declared.Advanced.{Advanced}
@@ -86,5 +86,5 @@ composed-run Y a =
 pub same-values : SameValues
 same-values Y Z a b e F lents others r n f g =
     right Y a F lents n f .ports
-    ∙ (λ i. portsAt (programOf (e i)) F (λ k. r k i) n)
+    ∙ (λ i. portsInTick (programOf (e i)) F (λ k. r k i) n)
     ∙ sym (right Z b F others n g .ports)

@@ -35,7 +35,7 @@ use Rattle.machine.specs.Advance.{ready}
 use Rattle.machine.specs.declared.State.{State}
 use Rattle.demands.specs.Composed.{System, joined, code, advanced, stateAt, SuitedAt}
 use Rattle.demands.specs.Supplied.{givenBy, givenIn, lentTo, history, supplied, worstTimes, SuppliedRight}
-use Rattle.demands.specs.Given.{Fed}
+use Rattle.demands.specs.Given.{LentFits}
 use Rattle.demands.proofs.Composed.{composed-run}
 
 module _ (Y : System) (F : Function) (readings times : ℕ → List ℤ) where
@@ -102,7 +102,7 @@ worst-in-range T a t l =
 -- worst-case times are in range, with any task function and any readings
 pub worst-fed : (T : Tables) → programVerdict T ≡ acceptedNumber → (F : Function) (readings : ℕ → List ℤ)
     → ((n : ℕ) → length (readings n) ≡ maxPorts)
-    → Fed (programOf T) F readings (λ n. worstTimes (programOf T))
+    → LentFits (programOf T) F readings (λ n. worstTimes (programOf T))
 worst-fed T a F readings l = record {
   readings-length = l;
   times-length = λ n. each-length (λ t. pos (task (programOf T) t .worst)) maxTasks 0;

@@ -14,7 +14,7 @@ use Rattle.code.specs.Compile.{Compiling, compileAnswer, wordsOf}
 use Rattle.suppliers.specs.Windows.{windowsVerdict}
 use Rattle.suppliers.specs.Supplier.{supplierVerdict}
 use Rattle.giotto.specs.Instant.{Configuration, Function}
-use Rattle.giotto.specs.Execution.{execution, portsAt}
+use Rattle.giotto.specs.Execution.{execution, portsInTick}
 use Rattle.machine.specs.Advance.{Lent, freshAnswer, advanceAnswer}
 use Rattle.machine.specs.declared.State.{State}
 use Rattle.machine.specs.declared.Advanced.{Advanced}
@@ -70,7 +70,7 @@ module _ (Y : System) where
     -- What is promised of tick n: it is not refused, and after it all ports hold Giotto's values
     pub record Right (n : ℕ) : Type 0 where
       pub accepted : advanced (lents n) (stateAt lents n) .number ≡ acceptedNumber
-      pub ports : stateAt lents (suc n) .ports ≡ portsAt (programOf (Y .tables)) F readings n
+      pub ports : stateAt lents (suc n) .ports ≡ portsInTick (programOf (Y .tables)) F readings n
 
 -- The composed run is Giotto's: the fresh state is given, and every tick is right as long as all ticks up to it are suited
 abbrev pub ComposedRun : Type 0

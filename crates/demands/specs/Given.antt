@@ -16,7 +16,7 @@ use Rattle.program.specs.Ports.{valueOf, valuesOf, takes}
 use Rattle.rules.specs.Fields.{InRange}
 use Rattle.rules.specs.Verdict.{programVerdict}
 use Rattle.giotto.specs.Instant.{Configuration, Function, results}
-use Rattle.giotto.specs.Execution.{execution, releasedAt, portsAt}
+use Rattle.giotto.specs.Execution.{execution, releasedAt, portsInTick}
 use Rattle.machine.specs.Advance.{Lent}
 use Rattle.demands.specs.Composed.{System, Accepted, SuitedAt, Right}
 
@@ -28,7 +28,7 @@ pub record Given (P : Program) (F : Function) (lents : ℕ → Lent) (n : ℕ) :
   pub times-length : length (lents n .times) ≡ maxTasks
   pub times : (t : ℕ) → member t (releasedAt P F (λ k. lents k .readings) n) ≡ true → InRange (numAt (lents n .times) t) (task P t .worst)
   pub results : (t p : ℕ) → execution P F (λ k. lents k .readings) (suc n) .active t ≡ true → member p (task P t .outputs) ≡ true
-      → valueOf (lents n .results) p ≡ F t (valuesOf (portsAt P F (λ k. lents k .readings) n) (task P t .inputs)) p
+      → valueOf (lents n .results) p ≡ F t (valuesOf (portsInTick P F (λ k. lents k .readings) n) (task P t .inputs)) p
 
 -- What is asked of ticks is enough for the composed run: a tick is suited, and so right, as long as all ticks up to it are lent it
 abbrev pub GivenFair : Type 0
@@ -55,7 +55,7 @@ lentBy P F readings times n =
     record { readings = readings n; results = resultsOf P F (execution P F readings (suc n)); times = times n }
 
 -- readings and times have their lengths, and the times of the tasks released are in range
-pub record Fed (P : Program) (F : Function) (readings times : ℕ → List ℤ) : Type 0 where
+pub record LentFits (P : Program) (F : Function) (readings times : ℕ → List ℤ) : Type 0 where
   pub readings-length : (n : ℕ) → length (readings n) ≡ maxPorts
   pub times-length : (n : ℕ) → length (times n) ≡ maxTasks
   pub in-range : (n t : ℕ) → member t (releasedAt P F readings n) ≡ true → InRange (numAt (times n) t) (task P t .worst)
@@ -63,12 +63,12 @@ pub record Fed (P : Program) (F : Function) (readings times : ℕ → List ℤ) 
 -- The results computed from Giotto's execution are what is asked of every tick: active tasks share no output
 abbrev pub GivenMet : Type 0
 GivenMet =
-    (T : Tables) → programVerdict T ≡ acceptedNumber → (F : Function) (readings times : ℕ → List ℤ) → Fed (programOf T) F readings times
-    → (n : ℕ) → Given (programOf T) F (lentBy (programOf T) F readings times) n
+    (T : Tables) → programVerdict T ≡ acceptedNumber → (F : Function) (readings times : ℕ → List ℤ)
+    → LentFits (programOf T) F readings times → (n : ℕ) → Given (programOf T) F (lentBy (programOf T) F readings times) n
 
 -- Every accepted system runs as Giotto's execution, for any task function, any readings and any times in range, with the results that
 -- are computed from that execution
 abbrev pub ExecutionRight : Type 0
 ExecutionRight =
-    (Y : System) → Accepted Y → (F : Function) (readings times : ℕ → List ℤ) → Fed (programOf (Y .tables)) F readings times
+    (Y : System) → Accepted Y → (F : Function) (readings times : ℕ → List ℤ) → LentFits (programOf (Y .tables)) F readings times
     → (n : ℕ) → Right Y F (lentBy (programOf (Y .tables)) F readings times) n

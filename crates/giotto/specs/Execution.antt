@@ -31,5 +31,5 @@ module _ (P : Program) (F : Function) where
   releasedAt readings n = releasedBy n (readings n) (execution readings n)
 
   -- the port values of an execution in tick n
-  abbrev pub portsAt : (ℕ → List ℤ) → ℕ → List ℤ
-  portsAt readings n = execution readings (suc n) .ports
+  abbrev pub portsInTick : (ℕ → List ℤ) → ℕ → List ℤ
+  portsInTick readings n = execution readings (suc n) .ports

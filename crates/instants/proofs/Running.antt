@@ -19,19 +19,19 @@ use Rattle.machine.specs.declared.State.{State}
 use Rattle.machine.specs.declared.Advanced.{Advanced}
 use Rattle.machine.specs.declared.At.{At}
 use Rattle.machine.specs.Instruction.{executes}
-use Rattle.machine.specs.Instant.{ok, stop, isReturn, ended, fetch, refusalAt, runFrom, startAt, runInstant}
+use Rattle.machine.specs.Instant.{ok, stop, isReturn, ranOut, fetch, refusalAt, runFrom, startAt, runInstant}
 use Rattle.machine.specs.Advance.{answer}
 use Rattle.machine.proofs.Instants.{passes, at-return, at-refusal}
 use Rattle.instants.specs.declared.instructions.Stepped.{Stepped}
 use Rattle.instants.specs.Step.{stepped, stepAt}
 
 -- after as many instructions as the code has, an address inside the code is refused with 20
-pub spent-inside : (n address : ℕ) (s : State) → address < n → record { number = countRefused; state = s } ≡ answer s (ended n address)
-spent-inside n address s l = rw (lt-ltb address n l, ended)
+pub spent-inside : (n address : ℕ) (s : State) → address < n → record { number = countRefused; state = s } ≡ answer s (ranOut n address)
+spent-inside n address s l = rw (lt-ltb address n l, ranOut)
 
 -- after as many instructions as the code has, an address past the end is refused with 19
-pub spent-outside : (n address : ℕ) (s : State) → n ≤ address → record { number = faultyRefused; state = s } ≡ answer s (ended n address)
-spent-outside n address s l = rw (le-ltb address n l, ended)
+pub spent-outside : (n address : ℕ) (s : State) → n ≤ address → record { number = faultyRefused; state = s } ≡ answer s (ranOut n address)
+spent-outside n address s l = rw (le-ltb address n l, ranOut)
 
 module _ (P : Program) (readings times : List ℤ) where
   -- a `return` leaves the machine as it is
@@ -107,12 +107,12 @@ module _ (P : Program) (readings times : List ℤ) where
 
     module _ (more : ℕ) (a : At) (left : Left more a) where
       -- where no instruction is left, the count ends the instant
-      pub left-none : (r : Advanced) → more ≤ 0 → r ≡ answer s (ended (length words / wordsEach) (a .address))
+      pub left-none : (r : Advanced) → more ≤ 0 → r ≡ answer s (ranOut (length words / wordsEach) (a .address))
           → r ≡ answer s (runInstant P readings times (instructions words) s)
       left-none r l e =
           let z : 0 ≡ more = omega arith in
           e
-          ∙ ap (λ (n : ℕ). answer s (ended n (a .address))) (sym (instructions-length words))
+          ∙ ap (λ (n : ℕ). answer s (ranOut n (a .address))) (sym (instructions-length words))
           ∙ ap (answer s) (ap (λ (k : ℕ). runFrom P readings times (instructions words) k a) z ∙ left)
 
       module _ (l : 0 < more) (r : Stepped) (e : r ≡ stepAt P readings times (instructions words) a) where

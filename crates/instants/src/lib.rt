@@ -5,7 +5,7 @@ ghost use Rattle.program.specs.Tables.{tablesIn};
 ghost use Rattle.program.specs.Program.{programOf};
 ghost use Rattle.rules.specs.Shape.{InShape};
 ghost use Rattle.code.specs.Op.{instructions};
-ghost use Rattle.machine.specs.Instant.{ended, runInstant};
+ghost use Rattle.machine.specs.Instant.{ranOut, runInstant};
 ghost use Rattle.machine.specs.Advance.{answer};
 use cells::limits::Program;
 use cells::refusals;
@@ -18,7 +18,7 @@ mod instructions;
 
 // What an instant comes to after as many instructions as the code has: 20 at an address inside the code, 19 at one past its end.
 fn spent(count: usize, address: usize, s: State) -> Advanced
-    ensures { λ r. ⌜ r ≡ answer s (ended count address) ⌝ }
+    ensures { λ r. ⌜ r ≡ answer s (ranOut count address) ⌝ }
 {
     if address < count {
         return Advanced {

@@ -5,7 +5,7 @@ use mathlib.Core.List.{List, [], _++_}
 use native.Mathlib.Omega.{arith}
 use lib.IntN.{ℤ, pos}
 use lib.ListN.{length, replicate, length-replicate}
-use Rattle.text.specs.Input.{program, lines, numbersOf}
+use Rattle.text.specs.Input.{programRead, lines, numbersOf}
 use Rattle.intake.specs.Shapes.{wholeRoom}
 use Rattle.intake.specs.Change.{startIntake}
 use Rattle.intake.specs.Line.{Fed, fed}
@@ -31,7 +31,7 @@ sound-fresh room h =
     }
 
 -- at the start all lines are left
-all-left : (room : List ℤ) (text : List ℕ) → resume (fed startIntake room) (numbersOf (lines text)) ≡ program text
+all-left : (room : List ℤ) (text : List ℕ) → resume (fed startIntake room) (numbersOf (lines text)) ≡ programRead text
 unfolding resume
 all-left room text = refl
 

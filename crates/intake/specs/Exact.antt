@@ -6,7 +6,7 @@ use mathlib.Core.Bool.{true}
 use mathlib.Core.List.{List, _++_}
 use lib.IntN.{ℤ, pos}
 use lib.ListN.{length, replicate}
-use Rattle.text.specs.Input.{program}
+use Rattle.text.specs.Input.{programRead}
 use Rattle.intake.specs.Shapes.{wholeRoom}
 use Rattle.intake.specs.Change.{startIntake}
 use Rattle.intake.specs.Line.{Fed, fed, isDecided}
@@ -27,7 +27,7 @@ takenIn room text = fedAll (fed startIntake room) text
 
 -- a whole text comes to what the definition says of it
 abbrev pub ReadsExactly : Type 0
-ReadsExactly = (room : List ℤ) → Roomy room → (text : List ℕ) → heard (endedOf (takenIn room text)) ≡ program text
+ReadsExactly = (room : List ℤ) → Roomy room → (text : List ℕ) → heard (endedOf (takenIn room text)) ≡ programRead text
 
 -- two pieces of input, one after the other, are one
 abbrev pub CutAnywhere : Type 0
@@ -40,4 +40,4 @@ DecidedStays = (f : Fed) → isDecided (f .intake) ≡ true → (more : List ℕ
 -- once the text is decided, what was heard is what the definition says of the text, whatever follows
 abbrev pub DecidesAtOnce : Type 0
 DecidesAtOnce = (room : List ℤ) → Roomy room → (text more : List ℕ)
-    → isDecided (takenIn room text .intake) ≡ true → heard (takenIn room text) ≡ program (text ++ more)
+    → isDecided (takenIn room text .intake) ≡ true → heard (takenIn room text) ≡ programRead (text ++ more)

@@ -16,7 +16,7 @@ use Rattle.code.specs.Op.{Op}
 use Rattle.machine.specs.declared.State.{State}
 use Rattle.machine.specs.declared.At.{At}
 use Rattle.machine.specs.Instruction.{executes}
-use Rattle.machine.specs.Instant.{Outcome, ok, stop, ended, isReturn, fetch, refusalAt, runFrom, startAt, runInstant, Goes, Ends}
+use Rattle.machine.specs.Instant.{Outcome, ok, stop, ranOut, isReturn, fetch, refusalAt, runFrom, startAt, runInstant, Goes, Ends}
 use Rattle.machine.specs.Instant.{RefusedAt, Spent}
 
 module _ (P : Program) (readings times : List ℤ) (code : List Op) where
@@ -118,8 +118,8 @@ module _ (P : Program) (readings times : List ℤ) (code : List Op) where
       a = startAt P readings times code u
 
       ending : (b : At) → ((b .address < length code) × (n ≡ countRefused)) ⊎ ((length code ≤ b .address) × (n ≡ faultyRefused)) → runFrom P readings times code 0 b ≡ stop n
-      ending b (inl x) = rw (lt-ltb (b .address) (length code) (x .0), ended) (ap stop (sym (x .1)))
-      ending b (inr x) = rw (le-ltb (b .address) (length code) (x .0), ended) (ap stop (sym (x .1)))
+      ending b (inl x) = rw (lt-ltb (b .address) (length code) (x .0), ranOut) (ap stop (sym (x .1)))
+      ending b (inr x) = rw (le-ltb (b .address) (length code) (x .0), ranOut) (ap stop (sym (x .1)))
 
       back : RefusedAt P readings times code (length code) a n ⊎ Spent P readings times code (length code) a n → runFrom P readings times code (length code) a ≡ stop n
       back (inl c) =

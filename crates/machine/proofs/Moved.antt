@@ -18,7 +18,7 @@ use Rattle.cells.specs.Limits.{suppliers}
 use Rattle.program.specs.Program.{Program, task}
 use Rattle.program.specs.Ports.{valueOf, takes}
 use Rattle.program.proofs.Ports.{takes-at, takes-miss}
-use Rattle.runs.specs.Tick.{leftOf, work, after}
+use Rattle.runs.specs.Tick.{leftOf, work, leftAfter}
 use Rattle.machine.specs.declared.State.{State}
 use Rattle.machine.specs.declared.Advanced.{Advanced}
 use Rattle.machine.specs.Instant.{Outcome, ok, stop}
@@ -82,7 +82,7 @@ tick-passes P S results s u = go (running S s) refl
           works = subst (λ (w : Who). Works P results w s v) (sym e) (refl, refl);
         })
     go (one t) e q =
-        let v = afterTick S s (after (work t) (s .left)) (outputsAfter P results s t) in
+        let v = afterTick S s (leftAfter (work t) (s .left)) (outputsAfter P results s t) in
         subst (Passes P S results s) (finished q)
         (record {
           time = refl;

@@ -20,7 +20,7 @@ use Rattle.program.specs.Ports.{valueOf, takes}
 use Rattle.rules.specs.Fields.{inRange}
 use Rattle.rules.specs.Shape.{badLength}
 use Rattle.rules.specs.Verdict.{tableRefusals}
-use Rattle.runs.specs.Tick.{leftOf, work, after}
+use Rattle.runs.specs.Tick.{leftOf, work, leftAfter}
 use Rattle.code.specs.Op.{Op, call, schedule, branch, jump, future, return, faulty}
 use Rattle.code.specs.Compile.{longRefusal}
 use Rattle.machine.specs.declared.State.{State}
@@ -155,7 +155,7 @@ same-tick P S results others u h = go (running S u) refl
     go : (w : Who) → running S u ≡ w → ticked P S results u w ≡ ticked P S others u w
     go nobody e = refl
     go (one t) e =
-        ap (λ (v : List ℤ). ok (afterTick S u (after (work t) (u .left)) v)) (outputs t e (eqb (leftOf (u .left) t) 1) refl)
+        ap (λ (v : List ℤ). ok (afterTick S u (leftAfter (work t) (u .left)) v)) (outputs t e (eqb (leftOf (u .left) t) 1) refl)
     go several e = refl
 
 -- where the lengths are the same, so are the numbers that are given before anything runs

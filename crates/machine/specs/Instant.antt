@@ -31,8 +31,8 @@ isReturn return = true
 isReturn faulty = false
 
 -- what an instant comes to once it ran all of n instructions: 20 at an address inside the code, else 19
-abbrev pub ended : ℕ → ℕ → Outcome
-ended n address = elim (ltb address n) [ true ↦ stop countRefused | false ↦ stop faultyRefused ]
+abbrev pub ranOut : ℕ → ℕ → Outcome
+ranOut n address = elim (ltb address n) [ true ↦ stop countRefused | false ↦ stop faultyRefused ]
 
 module _ (P : Program) (readings times : List ℤ) (code : List Op) where
   -- the instruction at the machine's address; past the end stands none
@@ -45,7 +45,7 @@ module _ (P : Program) (readings times : List ℤ) (code : List Op) where
 
   -- what the machine comes to from a, in at most `count` instructions
   abbrev pub runFrom : ℕ → At → Outcome
-  runFrom zero a = ended (length code) (a .address)
+  runFrom zero a = ranOut (length code) (a .address)
   runFrom (suc count) a = elim (refusalAt a) [
     | zero ↦ elim (isReturn (fetch a)) [ true ↦ ok (a .state) | false ↦ runFrom count (executes P readings times (fetch a) a) ]
     | suc n ↦ stop (suc n)

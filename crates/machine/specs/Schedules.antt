@@ -12,7 +12,7 @@ use Rattle.cells.specs.Limits.{suppliers}
 use Rattle.cells.specs.Refusals.{collisionRefused}
 use Rattle.program.specs.Program.{Program, task}
 use Rattle.program.specs.Ports.{valueOf, takes}
-use Rattle.runs.specs.Tick.{leftOf, Act, rest, work, after, Place, moved, doing, runsIn}
+use Rattle.runs.specs.Tick.{leftOf, Act, rest, work, leftAfter, Place, moved, doing, runsIn}
 use Rattle.runs.specs.Schedule.{blockOf}
 use Rattle.machine.specs.declared.State.{State}
 use Rattle.machine.specs.declared.Running.{Running}
@@ -103,7 +103,7 @@ afterTick S s left outputs = tickPassed s left outputs (each (movedOf S s) suppl
 
 abbrev pub ticked : Program → List ℤ → List ℤ → State → Who → Outcome
 ticked P S results s nobody = ok (afterTick S s (s .left) (s .outputs))
-ticked P S results s (one t) = ok (afterTick S s (after (work t) (s .left)) (outputsAfter P results s t))
+ticked P S results s (one t) = ok (afterTick S s (leftAfter (work t) (s .left)) (outputsAfter P results s t))
 ticked P S results s several = stop collisionRefused
 
 abbrev pub tickAll : Program → List ℤ → List ℤ → State → Outcome

@@ -24,7 +24,7 @@ use Rattle.runs.proofs.Blocks.{behind-later, found-within, found-behind, block-
 use Rattle.suppliers.specs.Supplier.{breakNumber, breakTick}
 use Rattle.rounds.specs.declared.round.Rounded.{Rounded}
 use Rattle.rounds.specs.declared.units.Ended.{Ended}
-use Rattle.rounds.specs.Course.{courseIn, blockAt, blockIn, rowBefore, Come}
+use Rattle.rounds.specs.Course.{courseIn, blockAt, rowsAtFuture, rowBefore, Come}
 use Rattle.rounds.specs.Breaks.{unitEnd, rounded}
 use Rattle.rounds.proofs.Stops.{unit-passed, unit-breaks, unit-own-block}
 
@@ -84,7 +84,7 @@ module _ (T : Tables) (W S : List ℤ) (sensors s m u ticks first from : ℕ) wh
   counts = countsIn (T .invocations) (T .updates) (T .switches) sensors m u
 
   abbrev run : Course
-  run = courseIn (T .tasks) (T .invocations) W s m u ticks (blockIn S s counts first)
+  run = courseIn (T .tasks) (T .invocations) W s m u ticks (rowsAtFuture S s counts first)
 
   -- after k units none broke, the rest is judged as the whole, and the walk has come to this address and this row
   pub record Going (k at row : ℕ) (left : List ℕ) : Type 0 where
@@ -132,7 +132,7 @@ module _ (T : Tables) (W S : List ℤ) (sensors s m u ticks first from : ℕ) wh
         (q : span ≡ found S row s (at + before)) (p : part ≡ spanOf S span)
         (e : unit ≡ unitEnd (courseIn (T .tasks) (T .invocations) W s m u ticks (λ j. rowsOf part)) k left) where
       -- the rows found are the block of the next unit
-      rows-are : rowsOf part ≡ blockIn S s counts first k
+      rows-are : rowsOf part ≡ rowsAtFuture S s counts first k
       rows-are =
           ap rowsOf p
           ∙ ap (λ (x : Span). rowsOf (spanOf S x)) q
@@ -142,7 +142,7 @@ module _ (T : Tables) (W S : List ℤ) (sensors s m u ticks first from : ℕ) wh
 
       -- the next unit ended as it does in the course
       unit-is : unit ≡ unitEnd run k left
-      unit-is = e ∙ unit-own-block (T .tasks) (T .invocations) W s m u ticks (blockIn S s counts first) k left rows-are
+      unit-is = e ∙ unit-own-block (T .tasks) (T .invocations) W s m u ticks (rowsAtFuture S s counts first) k left rows-are
 
       -- the next unit and the units after it are judged as the round is
       rest : judge run (worstCase run) (suc (u - (k + 1))) k left ≡ worstBreak run nothing

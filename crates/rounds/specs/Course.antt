@@ -46,8 +46,8 @@ abbrev pub blockAt : (ℕ → Counts) → ℕ → ℕ → ℕ
 blockAt counts first k = first + sum (λ j. sizeOf (counts j)) k
 
 -- the schedule rows at the `future` of unit k, if the block of unit 0 stands at `first` and the units have these counts
-abbrev pub blockIn : List ℤ → ℕ → (ℕ → Counts) → ℕ → ℕ → List Row
-blockIn S s counts first k = blockOf S s (blockAt counts first k + beforeFuture (counts k))
+abbrev pub rowsAtFuture : List ℤ → ℕ → (ℕ → Counts) → ℕ → ℕ → List Row
+rowsAtFuture S s counts first k = blockOf S s (blockAt counts first k + beforeFuture (counts k))
 
 -- the schedule's row that a walk has come to before the block of unit k, from row `from` before that of unit 0
 abbrev pub rowBefore : List ℤ → ℕ → (ℕ → Counts) → ℕ → ℕ → ℕ → ℕ
@@ -59,7 +59,7 @@ rowBefore S s counts first from (suc k) =
 abbrev pub courseOn : Tables → List ℤ → List ℤ → ℕ → ℕ → ℕ → ℕ → Course
 courseOn T W S s sensors m first =
     courseIn (T .tasks) (T .invocations) W s m (units T m) (modePeriod T m / units T m)
-    (blockIn S s (countsIn (T .invocations) (T .updates) (T .switches) sensors m (units T m)) first)
+    (rowsAtFuture S s (countsIn (T .invocations) (T .updates) (T .switches) sensors m (units T m)) first)
 
 -- a walk over the listing and the schedule has come to this address and this row: every row before it is behind
 pub record Come (S : List ℤ) (s at row : ℕ) : Type 0 where

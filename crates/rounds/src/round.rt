@@ -8,7 +8,7 @@ ghost use Rattle.rules.specs.Shape.{InShape};
 ghost use Rattle.layout.specs.Counts.{countsIn, mostMode, mostCode};
 ghost use Rattle.runs.specs.Schedule.{Sorted};
 ghost use Rattle.runs.specs.Round.{worstBreak, nothing};
-ghost use Rattle.rounds.specs.Course.{courseIn, blockAt, blockIn, rowBefore, Come};
+ghost use Rattle.rounds.specs.Course.{courseIn, blockAt, rowsAtFuture, rowBefore, Come};
 ghost use Rattle.rounds.specs.Breaks.{rounded};
 use crate::units;
 use cells::kinds::Mode;
@@ -49,7 +49,7 @@ pub fn one_round(
     ensures { λ r. ⌜ ((start : ℤ) → let T = tablesIn (now (tables .entry)) start in
         let counts = countsIn (T .invocations) (T .updates) (T .switches) sensors (m .0) u in
         let course = courseIn (T .tasks) (T .invocations) (now (windows .entry)) supplier (m .0) u ticks in
-        r ≡ rounded (worstBreak (course (blockIn (now (part .entry)) supplier counts first)) nothing) (blockAt counts first u)
+        r ≡ rounded (worstBreak (course (rowsAtFuture (now (part .entry)) supplier counts first)) nothing) (blockAt counts first u)
         (rowBefore (now (part .entry)) supplier counts first from u)) ⌝ }
 {
     let tasks = tables[tables::TASKS];

@@ -37,20 +37,20 @@ kind-at T place row {k} e few l m h =
     row-at T place row e (h ∙ ap (getD (rowTests T) k (λ j. false)) (m ∙ name-small row (omega (arith, few, l, same))))
 
 -- a program in shape has fewer ports than a kind can name
-pub few-ports : (T : Tables) → shapeBad T ≡ false → portCount T < unnamed
-few-ports T e = omega (arith, whole-few portWidth maxPorts (T .ports) (shape-bars T .ok e .ports))
+pub ports-nameable : (T : Tables) → shapeBad T ≡ false → portCount T < unnamed
+ports-nameable T e = omega (arith, whole-few portWidth maxPorts (T .ports) (shape-bars T .ok e .ports))
 
 -- a program in shape has fewer tasks than a kind can name
-pub few-tasks : (T : Tables) → shapeBad T ≡ false → taskCount T < unnamed
-few-tasks T e = omega (arith, whole-few taskWidth maxTasks (T .tasks) (shape-bars T .ok e .tasks))
+pub tasks-nameable : (T : Tables) → shapeBad T ≡ false → taskCount T < unnamed
+tasks-nameable T e = omega (arith, whole-few taskWidth maxTasks (T .tasks) (shape-bars T .ok e .tasks))
 
 -- a program in shape has fewer drivers than a kind can name
-pub few-drivers : (T : Tables) → shapeBad T ≡ false → driverCount T < unnamed
-few-drivers T e = omega (arith, whole-few driverWidth maxDrivers (T .drivers) (shape-bars T .ok e .drivers))
+pub drivers-nameable : (T : Tables) → shapeBad T ≡ false → driverCount T < unnamed
+drivers-nameable T e = omega (arith, whole-few driverWidth maxDrivers (T .drivers) (shape-bars T .ok e .drivers))
 
 -- a program in shape has fewer modes than a kind can name
-pub few-modes : (T : Tables) → shapeBad T ≡ false → modeCount T < unnamed
-few-modes T e = omega (arith, whole-few modeWidth maxModes (T .modes) (shape-bars T .ok e .modes))
+pub modes-nameable : (T : Tables) → shapeBad T ≡ false → modeCount T < unnamed
+modes-nameable T e = omega (arith, whole-few modeWidth maxModes (T .modes) (shape-bars T .ok e .modes))
 
 -- at a place past the last table no row is bad
 pub row-past : (T : Tables) (place row : ℕ) → tableCount ≤ place → rowBad T place row ≡ false

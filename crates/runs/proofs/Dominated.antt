@@ -9,7 +9,7 @@ use native.Mathlib.Omega.{arith}
 use lib.ListN.{length, length-set}
 use Rattle.theory.specs.Lists.{member}
 use Rattle.theory.proofs.Lists.{every-all}
-use Rattle.runs.specs.Tick.{dispatch, Row, Act, rest, work, after, Place, doing, runsIn}
+use Rattle.runs.specs.Tick.{dispatch, Row, Act, rest, work, leftAfter, Place, doing, runsIn}
 use Rattle.runs.specs.Round.{Course, Choice, unitStart, going, before, alone, Good}
 use Rattle.runs.specs.Dominated.{OwnRows, AtMost, Dominated}
 use Rattle.runs.proofs.Tick.{tick-runs, tick-dominated}
@@ -24,7 +24,7 @@ pub any-rows : (block : List Row) → OwnRows Any block
 any-rows block = every-all (λ x. x .kind ≡ dispatch → Any (x .job)) block (λ x k. tt)
 
 -- what runs in a tick keeps the number of remaining times
-after-length : (a : Act) (r : List ℕ) → length (after a r) ≡ length r
+after-length : (a : Act) (r : List ℕ) → length (leftAfter a r) ≡ length r
 after-length rest r = refl
 after-length (work j) r = simp length-set
 

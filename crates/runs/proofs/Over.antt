@@ -11,7 +11,7 @@ use Rattle.theory.specs.Claim.{Says}
 use Rattle.theory.specs.Lists.{Every}
 use Rattle.theory.proofs.Bools.{clash, says-le, says-or, says-as, is-true, is-false}
 use Rattle.runs.specs.Tick.{Kind, dispatch, idle, Row, leftOf, nothingToDo, reached, skipped, passed, Act, rest, work, does, act}
-use Rattle.runs.specs.Tick.{runs, Place, moved, doing, after}
+use Rattle.runs.specs.Tick.{runs, Place, moved, doing, leftAfter}
 use Rattle.runs.proofs.Tick.{one-less}
 use Rattle.runs.specs.Over.{OverBy, Over, Open, PassedTo, ahead, Runs, Waits, TickSays}
 
@@ -103,11 +103,11 @@ module _ (block : List Row) (e : ℕ) (s : Place) where
       none h = acts [] (record { before = ahead block e s; in-order = sym (append-nil (ahead block e s)); all-over = h; not-over = tt })
 
   -- the job that ran has a tick less to run, and every other as much as before
-  worked : (a : Act) (j : ℕ) → a ≡ work j → leftOf (after a (s .left)) j ≡ leftOf (s .left) j - 1
+  worked : (a : Act) (j : ℕ) → a ≡ work j → leftOf (leftAfter a (s .left)) j ≡ leftOf (s .left) j - 1
   worked rest j h = clash {b = true} refl (ap runs (sym h))
   worked (work i) j h = rw (does-run dispatch i j h .1) (one-less (s .left) j)
 
-  others : (a : Act) (j : ℕ) → (a ≡ work j → ⊥) → leftOf (after a (s .left)) j ≡ leftOf (s .left) j
+  others : (a : Act) (j : ℕ) → (a ≡ work j → ⊥) → leftOf (leftAfter a (s .left)) j ≡ leftOf (s .left) j
   others rest j h = refl
   others (work i) j h = getD-set-other (s .left) i j (leftOf (s .left) i - 1) 0 (λ q. h (ap work (sym q)))
 

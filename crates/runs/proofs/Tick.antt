@@ -12,7 +12,7 @@ use lib.Seq.{getD-set-other, drop-drop}
 use borrow.Author.Tests.{leb-true, leb-false, le-leb}
 use Rattle.theory.proofs.Bools.{clash, neither}
 use Rattle.runs.specs.Tick.{Kind, dispatch, idle, Row, leftOf, nothingToDo, reached, skipped, passed, Act, rest, work, does, act}
-use Rattle.runs.specs.Tick.{runs, after, Place, moved, doing, runsIn, tick}
+use Rattle.runs.specs.Tick.{runs, leftAfter, Place, moved, doing, runsIn, tick}
 use Rattle.runs.specs.Dominated.{Settled, OwnRows, AtMost, Dominated}
 
 -- where one of two tests passes, so does one of two tests that follow from them
@@ -64,7 +64,7 @@ one-less (n ∷ r) zero = refl
 one-less (n ∷ r) (suc j) = one-less r j
 
 -- a tick adds to no remaining time
-pub after-less : (a : Act) (r : List ℕ) (j : ℕ) → leftOf (after a r) j ≤ leftOf r j
+pub after-less : (a : Act) (r : List ℕ) (j : ℕ) → leftOf (leftAfter a r) j ≤ leftOf r j
 after-less rest r j = omega arith
 after-less (work t) r j = go (ℕ-discrete j t)
   where
@@ -73,7 +73,7 @@ after-less (work t) r j = go (ℕ-discrete j t)
     go (no q) = rw (getD-set-other r t j (leftOf r t - 1) 0 q) (omega arith)
 
 -- who does not run leaves the remaining times as they are
-pub rests : (a : Act) (left : List ℕ) → runs a ≡ false → left ≡ after a left
+pub rests : (a : Act) (left : List ℕ) → runs a ≡ false → left ≡ leftAfter a left
 rests rest left e = refl
 rests (work t) left e = clash {b = true} refl e
 
@@ -142,7 +142,7 @@ module _ (Own : ℕ → Type 0) where
   -- what acts a and b of one tick hand on, where a is of the shorter run: if a runs, so does b, and a leaves at most as much to run
   record Fit (a b : Act) (r q : List ℕ) : Type 0 where
     runs-too : runs a ≡ true → runs b ≡ true
-    owes : AtMost Own (after a r) (after b q)
+    owes : AtMost Own (leftAfter a r) (leftAfter b q)
 
   -- acts of two runs that stand at one row fit
   fit-same : (k : Kind) (t : ℕ) (r q : List ℕ) → AtMost Own r q → Fit (does k t) (does k t) r q
@@ -157,7 +157,7 @@ module _ (Own : ℕ → Type 0) where
   fit-ahead : (k : Kind) (t : ℕ) (r q : List ℕ) (a : Act) → AtMost Own r q → nothingToDo k (leftOf r t) ≡ true → Fit a (does k t) r q
   fit-ahead dispatch t r q a b h = record { runs-too = λ _. refl; owes = λ j o. go j o (ℕ-discrete j t) }
     where
-      go : (j : ℕ) → Own j → Dec (j ≡ t) → leftOf (after a r) j ≤ leftOf (set q t (leftOf q t - 1)) j
+      go : (j : ℕ) → Own j → Dec (j ≡ t) → leftOf (leftAfter a r) j ≤ leftOf (set q t (leftOf q t - 1)) j
       go j o (yes e) = rw e (omega (arith, after-less a r t, leb-true (leftOf r t) 0 h))
       go j o (no e) = rw (getD-set-other q t j (leftOf q t - 1) 0 e) (omega (arith, after-less a r j, b j o))
   fit-ahead idle t r q a b h = clash {b = false} h refl
@@ -197,7 +197,7 @@ module _ (Own : ℕ → Type 0) where
 
   -- a tick keeps a place dominated, where after it at most as much is owed as it leaves
   pub tick-among : (block : List Row) (e : ℕ) (s d : Place) (r : List ℕ) → OwnRows Own block → Dominated Own block e s d
-      → AtMost Own r (after (doing block e s) (s .left)) → Dominated Own block (suc e) (record { position = moved block e s; left = r }) (tick block e d)
+      → AtMost Own r (leftAfter (doing block e s) (s .left)) → Dominated Own block (suc e) (record { position = moved block e s; left = r }) (tick block e d)
   tick-among block e s d r o h b = record {
     further = omega (
       arith,
@@ -207,10 +207,10 @@ module _ (Own : ℕ → Type 0) where
     );
     owes = λ j w. omega (arith, b j w, tick-fit block e s d o h .owes j w);
     settled-s = still-passed block e s r o (h .settled-s) (λ j w. omega (arith, b j w, after-less (doing block e s) (s .left) j));
-    settled-d = still-passed block e d (after (doing block e d) (d .left)) o (h .settled-d) (λ j w. after-less (doing block e d) (d .left) j);
+    settled-d = still-passed block e d (leftAfter (doing block e d) (d .left)) o (h .settled-d) (λ j w. after-less (doing block e d) (d .left) j);
   }
 
   -- a tick keeps a place dominated
   pub tick-dominated : (block : List Row) (e : ℕ) (s d : Place) → OwnRows Own block → Dominated Own block e s d
       → Dominated Own block (suc e) (tick block e s) (tick block e d)
-  tick-dominated block e s d o h = tick-among block e s d (after (doing block e s) (s .left)) o h (λ j w. omega arith)
+  tick-dominated block e s d o h = tick-among block e s d (leftAfter (doing block e s) (s .left)) o h (λ j w. omega arith)

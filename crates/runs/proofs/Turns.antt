@@ -7,10 +7,10 @@ use native.Mathlib.Omega.{arith}
 use lib.ListN.{set}
 use lib.Seq.{set-getD}
 use Rattle.runs.specs.declared.turn.Turn.{Turn}
-use Rattle.runs.specs.Tick.{leftOf, Act, rest, work, after, turnOf, afterTurn}
+use Rattle.runs.specs.Tick.{leftOf, Act, rest, work, leftAfter, turnOf, afterTurn}
 
 -- the remaining times after a turn are those after its act
-pub turn-after : (position : ℕ) (a : Act) (left : List ℕ) → afterTurn (turnOf position a) left ≡ after a left
+pub turn-after : (position : ℕ) (a : Act) (left : List ℕ) → afterTurn (turnOf position a) left ≡ leftAfter a left
 unfolding afterTurn
 turn-after position rest left = refl
 turn-after position (work j) left = refl

@@ -56,9 +56,9 @@ runs rest = false
 runs (work j) = true
 
 -- the remaining times after a tick in which that runs
-abbrev pub after : Act → List ℕ → List ℕ
-after rest left = left
-after (work j) left = set left j (leftOf left j - 1)
+abbrev pub leftAfter : Act → List ℕ → List ℕ
+leftAfter rest left = left
+leftAfter (work j) left = set left j (leftOf left j - 1)
 
 -- a supplier within a unit: rows of its block passed, and the remaining times
 pub record Place : Type 0 where
@@ -77,7 +77,7 @@ abbrev pub runsIn : List Row → ℕ → Place → Bool
 runsIn block elapsed s = runs (doing block elapsed s)
 
 abbrev pub tick : List Row → ℕ → Place → Place
-tick block elapsed s = record { position = moved block elapsed s; left = after (doing block elapsed s) (s .left) }
+tick block elapsed s = record { position = moved block elapsed s; left = leftAfter (doing block elapsed s) (s .left) }
 
 -- what a tick does, as the code hands it on: the new position, whether a job runs, and which (0 where none does)
 abbrev pub jobOf : Act → ℕ

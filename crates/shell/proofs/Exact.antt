@@ -22,10 +22,10 @@ use Rattle.intake.specs.Exact.{emptyRoom}
 use Rattle.intake.proofs.Cut.{cut-anywhere}
 use Rattle.intake.proofs.Exact.{reads-exactly}
 use Rattle.shell.specs.Reading.{Brought, end, failure, pieceOf, brought, Hearing, afterRead}
-use Rattle.shell.specs.Answer.{answerOf, blank}
+use Rattle.shell.specs.Answer.{answerShown, blank}
 use Rattle.shell.specs.Writing.{bufferSize, emptyBuffer, openingOf, codeOf, pageOf, restOf, wroteOf, isWritten}
 use Rattle.shell.specs.Running.{heardIn, answerIn, Ran}
-use Rattle.shell.specs.Exact.{Buffers, Finished, pieces, joined, heardBy, answerTo, firstPage, Prints, RanWhole, BroughtExactly}
+use Rattle.shell.specs.Exact.{Buffers, Finished, pieces, piecesText, heardBy, answerTo, firstPage, Prints, RanWhole, BroughtExactly}
 use Rattle.shell.specs.Exact.{PrintsExactly, FailsPlainly, StopsDecided, StopsAtOnce}
 use Rattle.shell.proofs.Shipped.{read-text}
 use Rattle.shell.proofs.Hearing.{brought-bytes, some-bytes, hears-one}
@@ -77,15 +77,15 @@ start-open = refl
 pub prints-exactly : PrintsExactly
 unfolding shipped
 prints-exactly B ps =
-    prints B (pieces ps ++ _) (shipped (joined ps))
-    (ap printed (pieces-heard (fed startIntake (B .tables)) ps ∙ reads-exactly (B .tables) (B .roomy) (joined ps)))
+    prints B (pieces ps ++ _) (shipped (piecesText ps))
+    (ap printed (pieces-heard (fed startIntake (B .tables)) ps ∙ reads-exactly (B .tables) (B .roomy) (piecesText ps)))
 
 -- a text after which the program reads no more is answered as document 01 says, whatever would have followed
 pub stops-decided : StopsDecided
 unfolding shipped
 stops-decided B ps e more =
-    prints B (pieces ps) (shipped (joined ps ++ more))
-    (ap printed (stopped-heard (fed startIntake (B .tables)) ps more e ∙ reads-exactly (B .tables) (B .roomy) (joined ps ++ more)))
+    prints B (pieces ps) (shipped (piecesText ps ++ more))
+    (ap printed (stopped-heard (fed startIntake (B .tables)) ps more e ∙ reads-exactly (B .tables) (B .roomy) (piecesText ps ++ more)))
 
 -- a read that fails before the text is decided has the program print `bad input`
 pub fails-plainly : FailsPlainly
@@ -94,8 +94,8 @@ fails-plainly B ps e =
     let f = fed startIntake (B .tables) in
     let g = going-heard f ps start-open e in
     prints B (pieces ps ++ (failure ∷ [])) badInput
-    (ap (λ (h : Hearing). printed (heard (h .fed))) (hears-one f true (pieces ps) (fedAll f (joined ps)) failure (g .comes))
-    ∙ ap printed (heard-bad (fedAll f (joined ps)) (g .undecided)))
+    (ap (λ (h : Hearing). printed (heard (h .fed))) (hears-one f true (pieces ps) (fedAll f (piecesText ps)) failure (g .comes))
+    ∙ ap printed (heard-bad (fedAll f (piecesText ps)) (g .undecided)))
 
 -- a text that reads on may still be bad, so its answer is not 1 whatever follows
 pub stops-at-once : StopsAtOnce
@@ -109,8 +109,8 @@ stops-at-once B ps all = go (heardBy B (pieces ps) .more) refl
     go false e = refl
     go true e =
         let g = going-heard f ps start-open e in
-        let spoilt : shipped (joined ps ++ noNumber) ≡ badInput =
-        ap printed (sym (reads-exactly (B .tables) (B .roomy) (joined ps ++ noNumber)) ∙ ap (λ (h : Fed). heard (endedOf h)) (sym (cut-anywhere f (joined ps) noNumber)) ∙ spoilt-bad (fedAll f (joined ps)) (g .undecided)) in
+        let spoilt : shipped (piecesText ps ++ noNumber) ≡ badInput =
+        ap printed (sym (reads-exactly (B .tables) (B .roomy) (piecesText ps ++ noNumber)) ∙ ap (λ (h : Fed). heard (endedOf h)) (sym (cut-anywhere f (piecesText ps) noNumber)) ∙ spoilt-bad (fedAll f (piecesText ps)) (g .undecided)) in
         absurd (omega (arith, ap (λ (l : List ℕ). getD l 0 0) (sym spoilt ∙ all noNumber)))
 
 -- buffers of zeros: instances of the premises
@@ -125,12 +125,12 @@ zeros =
 
 -- the answer to no text at all is ten bytes, here in three writes
 ten-bytes : Finished zeros (end ∷ []) (4 ∷ 5 ∷ 1 ∷ [])
-unfolding zeros afterRead endedOf heard isComplete answerOf codeOf pageOf openingOf wroteOf restOf isWritten
+unfolding zeros afterRead endedOf heard isComplete answerShown codeOf pageOf openingOf wroteOf restOf isWritten
 ten-bytes = refl
 
 -- a run on no text at all: the tables and the code are as they were, `bad input` stands in the buffer
 nothing-ran : Ran emptyRoom emptyRoom blank (badInput ++ drop (length badInput) emptyBuffer) true
-unfolding afterRead endedOf heard isComplete answerOf codeOf pageOf openingOf wroteOf restOf isWritten
+unfolding afterRead endedOf heard isComplete answerShown codeOf pageOf openingOf wroteOf restOf isWritten
 nothing-ran =
     record {
       reads = end ∷ [];
@@ -160,6 +160,6 @@ unfolding tooManyPorts zeros afterRead fedOf lineEnd tookOf countedOf shapeAt is
 stops-there = refl
 
 -- the answer to a text with too many ports is 1 whatever follows
-one-there : (more : List ℕ) → shipped (joined tooManyPorts ++ more) ≡ verdictLine shapeRefused
+one-there : (more : List ℕ) → shipped (piecesText tooManyPorts ++ more) ≡ verdictLine shapeRefused
 unfolding tooManyPorts zeros afterRead fedOf lineEnd tookOf countedOf shapeAt isDecided isComplete heard signedOf partAfter capped shipped
-one-there more = ap printed (sym (reads-exactly emptyRoom (zeros .roomy) (joined tooManyPorts ++ more)) ∙ sym (stopped-heard (fed startIntake emptyRoom) tooManyPorts more stops-there))
+one-there more = ap printed (sym (reads-exactly emptyRoom (zeros .roomy) (piecesText tooManyPorts ++ more)) ∙ sym (stopped-heard (fed startIntake emptyRoom) tooManyPorts more stops-there))

@@ -24,7 +24,7 @@ use Rattle.text.proofs.Decimals.{decimal-few}
 use Rattle.text.proofs.PageEnd.{Ends, page-ends, page-goes, lines-some, lines-cut}
 use Rattle.shell.specs.Answer.{Answered, answered, textOfAnswer}
 use Rattle.shell.specs.declared.answer.Shown.{Shown}
-use Rattle.shell.specs.Writing.{openingOf, codeOf, opsOf, Spread, spread, laid, pageOf, restOf, onward, wroteOf, leftOf, takenOf}
+use Rattle.shell.specs.Writing.{openingOf, codeOf, opsOf, Spread, spread, laid, pageOf, restOf, onward, wroteOf, pageLeft, takenOf}
 use Rattle.shell.specs.Writing.{pendingOf, isWritten, AfterWrites}
 
 -- a page that was just laid has its whole text to hand on
@@ -174,14 +174,14 @@ module _ (a : Answered) (p : Spread) (n : ℕ) where
       (λ e. page-ready a true (p .sheet .next) (p .buffer) (r .fits))
 
 -- what any writes took and what is still to come after them was still to come before them
-pub taken-pending : (a : Answered) (p : Spread) (takes : List ℕ) → takenOf a p takes ++ pendingOf a (leftOf a p takes) ≡ pendingOf a p
+pub taken-pending : (a : Answered) (p : Spread) (takes : List ℕ) → takenOf a p takes ++ pendingOf a (pageLeft a p takes) ≡ pendingOf a p
 taken-pending a p [] = refl
 taken-pending a p (n ∷ ns) =
-    append-assoc (take n (restOf p)) (takenOf a (wroteOf a p n) ns) (pendingOf a (leftOf a (wroteOf a p n) ns))
+    append-assoc (take n (restOf p)) (takenOf a (wroteOf a p n) ns) (pendingOf a (pageLeft a (wroteOf a p n) ns))
     ∙ ap (λ (l : List ℕ). take n (restOf p) ++ l) (taken-pending a (wroteOf a p n) ns)
     ∙ wrote-pending a p n
 
-left-ready : (a : Answered) (p : Spread) (takes : List ℕ) → Ready a p → Ready a (leftOf a p takes)
+left-ready : (a : Answered) (p : Spread) (takes : List ℕ) → Ready a p → Ready a (pageLeft a p takes)
 left-ready a p [] r = r
 left-ready a p (n ∷ ns) r = left-ready a (wroteOf a p n) ns (wrote-ready a p n r)
 
@@ -194,10 +194,10 @@ none-pending a p r e =
     ∙ ap (linesFrom (p .sheet .next)) (drop-of-length-le (opsOf a) {i = p .sheet .next} (r .last z))
 
 -- where nothing is left to hand on, all was taken
-pub taken-whole : (a : Answered) (p : Spread) (takes : List ℕ) → Ready a p → isWritten (leftOf a p takes) ≡ true → takenOf a p takes ≡ pendingOf a p
+pub taken-whole : (a : Answered) (p : Spread) (takes : List ℕ) → Ready a p → isWritten (pageLeft a p takes) ≡ true → takenOf a p takes ≡ pendingOf a p
 taken-whole a p takes r e =
     sym (append-nil (takenOf a p takes))
-    ∙ ap (λ (l : List ℕ). takenOf a p takes ++ l) (sym (none-pending a (leftOf a p takes) (left-ready a p takes r) e))
+    ∙ ap (λ (l : List ℕ). takenOf a p takes ++ l) (sym (none-pending a (pageLeft a p takes) (left-ready a p takes r) e))
     ∙ taken-pending a p takes
 
 -- a write that takes a byte at least leaves less to come, unless nothing is
@@ -214,7 +214,7 @@ pending-falls a p n r h = go (length (restOf p)) refl
 
 -- after as many writes that take a byte at least as there are bytes to come, nothing is left
 pub writes-end : (a : Answered) (p : Spread) (takes : List ℕ) → Ready a p → Every (λ (n : ℕ). 1 ≤ n) takes
-    → length (pendingOf a p) ≤ length takes → isWritten (leftOf a p takes) ≡ true
+    → length (pendingOf a p) ≤ length takes → isWritten (pageLeft a p takes) ≡ true
 unfolding isWritten
 writes-end a p [] r all h =
     let z = length-append (restOf p) (linesFrom (p .sheet .next) (drop (p .sheet .next) (opsOf a))) in
@@ -223,7 +223,7 @@ writes-end a p (n ∷ ns) r all h =
     writes-end a (wroteOf a p n) ns (wrote-ready a p n r) (all .1) (omega (arith, pending-falls a p n r (all .0)))
 
 -- the page that is left after one write more
-left-more : (a : Answered) (p : Spread) (takes : List ℕ) (n : ℕ) → leftOf a p (takes ++ (n ∷ [])) ≡ wroteOf a (leftOf a p takes) n
+left-more : (a : Answered) (p : Spread) (takes : List ℕ) (n : ℕ) → pageLeft a p (takes ++ (n ∷ [])) ≡ wroteOf a (pageLeft a p takes) n
 left-more a p [] n = refl
 left-more a p (m ∷ ms) n = left-more a (wroteOf a p m) ms n
 

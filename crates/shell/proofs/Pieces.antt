@@ -10,7 +10,7 @@ use Rattle.intake.specs.Heard.{heard}
 use Rattle.intake.proofs.Cut.{cut-anywhere}
 use Rattle.intake.proofs.Decided.{decided-stays}
 use Rattle.shell.specs.Reading.{Brought, end, Hearing, hearing, afterRead, hears}
-use Rattle.shell.specs.Exact.{pieces, joined}
+use Rattle.shell.specs.Exact.{pieces, piecesText}
 use Rattle.shell.proofs.Hearing.{hears-still}
 
 -- a piece and what follows it are heard as one text
@@ -24,43 +24,43 @@ still-heard f d reads rest = ap (λ (h : Hearing). heard (h .fed)) (hears-still 
 
 -- what is heard of all pieces and then the end is what is heard of the text
 pub pieces-heard : (f : Fed) (ps : List (List ℕ))
-    → heard (hears (hearing f true) (pieces ps ++ (end ∷ [])) .fed) ≡ heard (endedOf (fedAll f (joined ps)))
+    → heard (hears (hearing f true) (pieces ps ++ (end ∷ [])) .fed) ≡ heard (endedOf (fedAll f (piecesText ps)))
 unfolding afterRead
 pieces-heard f [] = refl
-pieces-heard f (p ∷ ps) = go (isDecided (fedAll f p .intake)) refl (pieces-heard (fedAll f p) ps) ∙ cut-heard f p (joined ps)
+pieces-heard f (p ∷ ps) = go (isDecided (fedAll f p .intake)) refl (pieces-heard (fedAll f p) ps) ∙ cut-heard f p (piecesText ps)
   where
     g : Fed
     g = fedAll f p
 
     go : (b : Bool) → isDecided (g .intake) ≡ b
-        → heard (hears (hearing g true) (pieces ps ++ (end ∷ [])) .fed) ≡ heard (endedOf (fedAll g (joined ps)))
-        → heard (hears (hearing g (not b)) (pieces ps ++ (end ∷ [])) .fed) ≡ heard (endedOf (fedAll g (joined ps)))
-    go true d more = still-heard g d (pieces ps ++ (end ∷ [])) (joined ps)
+        → heard (hears (hearing g true) (pieces ps ++ (end ∷ [])) .fed) ≡ heard (endedOf (fedAll g (piecesText ps)))
+        → heard (hears (hearing g (not b)) (pieces ps ++ (end ∷ [])) .fed) ≡ heard (endedOf (fedAll g (piecesText ps)))
+    go true d more = still-heard g d (pieces ps ++ (end ∷ [])) (piecesText ps)
     go false d more = more
 
 -- what is heard of pieces after which the program reads no more is heard of the text, whatever would have followed
 pub stopped-heard : (f : Fed) (ps : List (List ℕ)) (rest : List ℕ) → hears (hearing f true) (pieces ps) .more ≡ false
-    → heard (hears (hearing f true) (pieces ps) .fed) ≡ heard (endedOf (fedAll f (joined ps ++ rest)))
+    → heard (hears (hearing f true) (pieces ps) .fed) ≡ heard (endedOf (fedAll f (piecesText ps ++ rest)))
 unfolding afterRead
 stopped-heard f [] rest e = clash {b = true} refl e
 stopped-heard f (p ∷ ps) rest e =
     go (isDecided (fedAll f p .intake)) refl e (stopped-heard (fedAll f p) ps rest)
-    ∙ cut-heard f p (joined ps ++ rest)
-    ∙ ap (λ (l : List ℕ). heard (endedOf (fedAll f l))) (sym (append-assoc p (joined ps) rest))
+    ∙ cut-heard f p (piecesText ps ++ rest)
+    ∙ ap (λ (l : List ℕ). heard (endedOf (fedAll f l))) (sym (append-assoc p (piecesText ps) rest))
   where
     g : Fed
     g = fedAll f p
 
     go : (b : Bool) → isDecided (g .intake) ≡ b → hears (hearing g (not b)) (pieces ps) .more ≡ false
-        → (hears (hearing g true) (pieces ps) .more ≡ false → heard (hears (hearing g true) (pieces ps) .fed) ≡ heard (endedOf (fedAll g (joined ps ++ rest))))
-        → heard (hears (hearing g (not b)) (pieces ps) .fed) ≡ heard (endedOf (fedAll g (joined ps ++ rest)))
-    go true d e more = still-heard g d (pieces ps) (joined ps ++ rest)
+        → (hears (hearing g true) (pieces ps) .more ≡ false → heard (hears (hearing g true) (pieces ps) .fed) ≡ heard (endedOf (fedAll g (piecesText ps ++ rest))))
+        → heard (hears (hearing g (not b)) (pieces ps) .fed) ≡ heard (endedOf (fedAll g (piecesText ps ++ rest)))
+    go true d e more = still-heard g d (pieces ps) (piecesText ps ++ rest)
     go false d e more = more e
 
 -- after pieces after which the program reads on, the text so far is known and not decided
 pub record Going (f : Fed) (ps : List (List ℕ)) : Type 0 where
-  pub comes : hears (hearing f true) (pieces ps) ≡ hearing (fedAll f (joined ps)) true
-  pub undecided : isDecided (fedAll f (joined ps) .intake) ≡ false
+  pub comes : hears (hearing f true) (pieces ps) ≡ hearing (fedAll f (piecesText ps)) true
+  pub undecided : isDecided (fedAll f (piecesText ps) .intake) ≡ false
 
 pub going-heard : (f : Fed) (ps : List (List ℕ)) → isDecided (f .intake) ≡ false → hears (hearing f true) (pieces ps) .more ≡ true → Going f ps
 unfolding afterRead
@@ -70,8 +70,8 @@ going-heard f (p ∷ ps) d e = go (isDecided (fedAll f p .intake)) refl e (going
     g : Fed
     g = fedAll f p
 
-    joins : fedAll g (joined ps) ≡ fedAll f (p ++ joined ps)
-    joins = cut-anywhere f p (joined ps)
+    joins : fedAll g (piecesText ps) ≡ fedAll f (p ++ piecesText ps)
+    joins = cut-anywhere f p (piecesText ps)
 
     go : (b : Bool) → isDecided (g .intake) ≡ b → hears (hearing g (not b)) (pieces ps) .more ≡ true
         → (isDecided (g .intake) ≡ false → hears (hearing g true) (pieces ps) .more ≡ true → Going g ps) → Going f (p ∷ ps)

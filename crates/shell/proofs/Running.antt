@@ -8,17 +8,17 @@ use lib.ListN.{length}
 use Rattle.text.specs.Line.{room}
 use Rattle.intake.specs.Line.{Fed}
 use Rattle.intake.specs.Heard.{heard}
-use Rattle.shell.specs.Answer.{Answered, answerOf, blank}
+use Rattle.shell.specs.Answer.{Answered, answerShown, blank}
 use Rattle.shell.specs.Reading.{Hearing, hearing, AfterSome}
 use Rattle.shell.specs.Writing.{pageOf, Printed}
 use Rattle.shell.specs.Running.{Ran}
 
 -- some reads, the answer to what was heard and some writes of it are a run of the program
 pub ran : (tables : List ℤ) (f : Fed) (a : Answered) (bytes buffer : List ℕ) (all : Bool) → AfterSome tables (hearing f false)
-    → a ≡ answerOf (heard f) blank → room ≤ length bytes → Printed a (pageOf a false 0 bytes) all buffer
+    → a ≡ answerShown (heard f) blank → room ≤ length bytes → Printed a (pageOf a false 0 bytes) all buffer
     → Ran tables (f .room) (a .code) buffer all
 ran tables f a bytes buffer all s e r p =
-    let answers = ap (λ (h : Hearing). answerOf (heard (h .fed)) blank) (s .comes) ∙ sym e in
+    let answers = ap (λ (h : Hearing). answerShown (heard (h .fed)) blank) (s .comes) ∙ sym e in
     record {
       reads = s .reads;
       over = ap (λ (h : Hearing). h .more) (s .comes);

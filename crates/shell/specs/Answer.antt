@@ -29,10 +29,10 @@ compiledOf T code =
     answered (record { bad = false; number = compileAnswer L .number; length = compileAnswer L .length }) (compileSlice L)
 
 -- the answer to what was read: `bad input`; 1 for a count outside its limit; else what compiling says
-unfoldable pub answerOf : Read Tables → List ℕ → Answered
-answerOf bad code = answered (record { bad = true; number = 0; length = 0 }) code
-answerOf tooMany code = answered (record { bad = false; number = shapeRefused; length = 0 }) code
-answerOf (got T rest) code = compiledOf T code
+unfoldable pub answerShown : Read Tables → List ℕ → Answered
+answerShown bad code = answered (record { bad = true; number = 0; length = 0 }) code
+answerShown tooMany code = answered (record { bad = false; number = shapeRefused; length = 0 }) code
+answerShown (got T rest) code = compiledOf T code
 
 -- the code that is lent to compiling: room for the longest listing, 0 at first
 abbrev pub blank : List ℕ

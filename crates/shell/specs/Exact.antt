@@ -15,7 +15,7 @@ use Rattle.intake.specs.Heard.{heard}
 use Rattle.intake.specs.Exact.{Roomy}
 use Rattle.shell.specs.Answer.{Answered}
 use Rattle.shell.specs.Reading.{Brought, piece, end, failure, brought, Hearing}
-use Rattle.shell.specs.Writing.{Spread, pageOf, leftOf, takenOf, pendingOf, isWritten}
+use Rattle.shell.specs.Writing.{Spread, pageOf, pageLeft, takenOf, pendingOf, isWritten}
 use Rattle.shell.specs.Running.{heardIn, answerIn, Ran}
 
 -- the buffers that the program works in: room for the largest program, and for any line
@@ -30,9 +30,9 @@ abbrev pub pieces : List (List ℕ) → List Brought
 pieces ps = map piece ps
 
 -- the text that these pieces are
-abbrev pub joined : List (List ℕ) → List ℕ
-joined [] = []
-joined (p ∷ ps) = p ++ joined ps
+abbrev pub piecesText : List (List ℕ) → List ℕ
+piecesText [] = []
+piecesText (p ∷ ps) = p ++ piecesText ps
 
 module _ (B : Buffers) (reads : List Brought) where
   -- what is known after these reads
@@ -53,11 +53,11 @@ module _ (B : Buffers) (reads : List Brought) where
 
   -- what is still to come, with so many bytes taken by each write
   abbrev pub toCome : List ℕ → List ℕ
-  toCome takes = pendingOf answerTo (leftOf answerTo firstPage takes)
+  toCome takes = pendingOf answerTo (pageLeft answerTo firstPage takes)
 
   -- nothing is still to come, with so many bytes taken by each write
   abbrev pub Finished : List ℕ → Type 0
-  Finished takes = isWritten (leftOf answerTo firstPage takes) ≡ true
+  Finished takes = isWritten (pageLeft answerTo firstPage takes) ≡ true
 
   -- these reads have the program print a text: whatever writes take, it is handed on from its first byte on, in order; whole where the
   -- program ends; and it ends, where each write takes a byte at least, after no more writes than the text has bytes
@@ -85,7 +85,7 @@ BroughtExactly = (buffer : List ℕ) → ReadSays buffer
 
 -- a text, in whatever pieces reads bring it, is answered as document 01 says
 abbrev pub PrintsExactly : Type 0
-PrintsExactly = (B : Buffers) (ps : List (List ℕ)) → Prints B (pieces ps ++ (end ∷ [])) (shipped (joined ps))
+PrintsExactly = (B : Buffers) (ps : List (List ℕ)) → Prints B (pieces ps ++ (end ∷ [])) (shipped (piecesText ps))
 
 -- where a read fails before the text is decided, what is missing of it is not known: `bad input`
 abbrev pub FailsPlainly : Type 0
@@ -96,10 +96,10 @@ FailsPlainly =
 abbrev pub StopsDecided : Type 0
 StopsDecided =
     (B : Buffers) (ps : List (List ℕ)) → heardBy B (pieces ps) .more ≡ false
-    → (more : List ℕ) → Prints B (pieces ps) (shipped (joined ps ++ more))
+    → (more : List ℕ) → Prints B (pieces ps) (shipped (piecesText ps ++ more))
 
 -- "1 at once": once the answer is 1 whatever follows, no read is asked for
 abbrev pub StopsAtOnce : Type 0
 StopsAtOnce =
-    (B : Buffers) (ps : List (List ℕ)) → ((more : List ℕ) → shipped (joined ps ++ more) ≡ verdictLine shapeRefused)
+    (B : Buffers) (ps : List (List ℕ)) → ((more : List ℕ) → shipped (piecesText ps ++ more) ≡ verdictLine shapeRefused)
     → heardBy B (pieces ps) .more ≡ false

@@ -7,7 +7,7 @@ use lib.IntN.{ℤ}
 use lib.ListN.{length}
 use Rattle.text.specs.Line.{room}
 use Rattle.intake.specs.Heard.{heard}
-use Rattle.shell.specs.Answer.{Answered, answerOf, blank}
+use Rattle.shell.specs.Answer.{Answered, answerShown, blank}
 use Rattle.shell.specs.Reading.{Brought, Hearing, hears, silent}
 use Rattle.shell.specs.Writing.{pageOf, Printed}
 
@@ -17,7 +17,7 @@ heardIn tables reads = hears (silent tables) reads
 
 -- what is answered to what is known after these reads into these tables
 abbrev pub answerIn : List ℤ → List Brought → Answered
-answerIn tables reads = answerOf (heard (heardIn tables reads .fed)) blank
+answerIn tables reads = answerShown (heard (heardIn tables reads .fed)) blank
 
 -- the program has run from these tables to these, with this code, this buffer and whether all was written
 pub record Ran (tables left : List ℤ) (code buffer : List ℕ) (all : Bool) : Type 0 where

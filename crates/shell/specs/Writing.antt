@@ -68,9 +68,9 @@ wroteOf a p n =
     (pageOf a true (p .sheet .next) (p .buffer))
 
 -- the page that is left after these writes, each with the bytes that it took
-abbrev pub leftOf : Answered → Spread → List ℕ → Spread
-leftOf a p [] = p
-leftOf a p (n ∷ ns) = leftOf a (wroteOf a p n) ns
+abbrev pub pageLeft : Answered → Spread → List ℕ → Spread
+pageLeft a p [] = p
+pageLeft a p (n ∷ ns) = pageLeft a (wroteOf a p n) ns
 
 -- all that was taken by these writes, in order, each with the bytes that it took
 abbrev pub takenOf : Answered → Spread → List ℕ → List ℕ
@@ -88,7 +88,7 @@ isWritten p = eqb (length (restOf p)) 0
 -- what some writes, whatever each of them took, have come to
 pub record AfterWrites (a : Answered) (first last : Spread) : Type 0 where
   pub takes : List ℕ
-  pub comes : leftOf a first takes ≡ last
+  pub comes : pageLeft a first takes ≡ last
 
 -- where printing ends, with this in the buffer: whether all was written
 pub record Printed (a : Answered) (first : Spread) (all : Bool) (buffer : List ℕ) : Type 0 where

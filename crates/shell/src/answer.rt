@@ -5,7 +5,7 @@ ghost use Rattle.intake.specs.Heard.{tablesRead, heard};
 ghost use Rattle.code.specs.Compile.{compileAnswer, compileSlice};
 ghost use Rattle.compiler.specs.Listed.{compiling};
 ghost use Rattle.text.specs.Shipped.{printed};
-ghost use Rattle.shell.specs.Answer.{blank, answered, answerOf, textOfAnswer};
+ghost use Rattle.shell.specs.Answer.{blank, answered, answerShown, textOfAnswer};
 use cells::limits::Program;
 use cells::refusals;
 use code::Compiled;
@@ -31,7 +31,7 @@ fn compiled(i: Intake, room: &[i32], code: &mut [u32]) -> Compiled
 // Compiling's answer where the text is complete; else number 1 where a count was out of its limit, or that the text is bad.
 pub fn answer(i: Intake, room: &[i32], code: &mut [u32]) -> Shown
     requires { ⌜ now code ≡ blank ⌝ }
-    ensures exact { λ r. ⌜ answered r (now (code .exit)) ≡ answerOf (heard (fed i (now (room .entry)))) blank ⌝ }
+    ensures exact { λ r. ⌜ answered r (now (code .exit)) ≡ answerShown (heard (fed i (now (room .entry)))) blank ⌝ }
     ensures says { λ r. ⌜ textOfAnswer (answered r (now (code .exit))) ≡ printed (heard (fed i (now (room .entry)))) ⌝ }
 {
     if i.complete() {

@@ -11,7 +11,7 @@ use borrow.Author.Tests.{lt-ltb, le-ltb}
 use Rattle.code.specs.Op.{Op, faulty}
 use Rattle.text.specs.Listing.{lineOf, linesFrom}
 use Rattle.text.specs.Line.{room, textOf, Holds}
-use Rattle.text.specs.Page.{Laid, linesOf, Written, pageEnd}
+use Rattle.text.specs.Page.{Laid, linesOf, PageWritten, pageEnd}
 use Rattle.text.specs.declared.line.Line.{Line}
 use Rattle.text.proofs.Pages.{lines-more, pages-join}
 
@@ -45,7 +45,7 @@ pub lines-none : (os : List Op) (from : ℕ) → linesOf os from from ≡ []
 lines-none os from = ap (linesFrom from) (slice-empty from os)
 
 -- a page with no line leaves the slice as it was
-pub written-none : (os : List Op) (from : ℕ) (before : List ℕ) → Written os from before before from 0
+pub written-none : (os : List Op) (from : ℕ) (before : List ℕ) → PageWritten os from before before from 0
 written-none os from before =
     record {
       onward = omega arith;
@@ -55,7 +55,7 @@ written-none os from before =
       text = sym (ap (λ (l : List ℕ). l ++ before) (lines-none os from));
     }
 
-module _ (os : List Op) (from : ℕ) (before after : List ℕ) (next len : ℕ) (w : Written os from before after next len) where
+module _ (os : List Op) (from : ℕ) (before after : List ℕ) (next len : ℕ) (w : PageWritten os from before after next len) where
   -- a page keeps the length of the slice
   pub written-same : length after ≡ length before
   written-same =
@@ -75,7 +75,7 @@ module _ (os : List Op) (from : ℕ) (before after : List ℕ) (next len : ℕ) 
 
   -- a page with one line more
   pub written-more : (l : Line) (out : List ℕ) (end : ℕ) → next < length os → end ≤ length before
-      → Holds l (lineOf next (getD os next faulty)) → Laid after out len l end → Written os from before out (next + 1) end
+      → Holds l (lineOf next (getD os next faulty)) → Laid after out len l end → PageWritten os from before out (next + 1) end
   written-more l out end h fits said laid =
       let o = getD os next faulty in
       let more : linesOf os from (next + 1) ≡ linesOf os from next ++ lineOf next o = rw add-one (lines-more os from next (w .onward) h) in

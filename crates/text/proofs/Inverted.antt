@@ -13,7 +13,7 @@ use Rattle.cells.specs.Cell.{greatestWord}
 use Rattle.code.specs.Op.{Op, call, schedule, branch, jump, future, return, faulty}
 use Rattle.text.specs.Decimal.{space, newline, decimal}
 use Rattle.text.specs.Listing.{mnemonic, arguments, spaced, lineOf, linesFrom, listingText}
-use Rattle.text.specs.ReadBack.{Printable, Placed, same, parts, asPrinted, numeral, withNumber, numerals, named, opNamed, placedAt}
+use Rattle.text.specs.ReadBack.{Printable, Placed, same, parts, asPrinted, numeral, numberBefore, numerals, named, opNamed, placedAt}
 use Rattle.text.specs.ReadBack.{readWords, readInner, readOnly, readLine, readNext, readFrom, readListing}
 use Rattle.text.proofs.Magnitude.{taken, word-decimal}
 use Rattle.text.proofs.Parts.{parts-more, parts-spaced, member-append, decimal-free, mnemonic-free, spaced-free}
@@ -31,7 +31,7 @@ numeral-decimal n h =
 -- printed arguments read back
 numerals-decimal : (ns : List ℕ) → Every (λ (n : ℕ). n ≤ greatestWord) ns → numerals (map decimal ns) ≡ some ns
 numerals-decimal [] h = refl
-numerals-decimal (n ∷ ns) h = λ j. withNumber (numeral-decimal n (h .0) j) (numerals-decimal ns (h .1) j)
+numerals-decimal (n ∷ ns) h = λ j. numberBefore (numeral-decimal n (h .0) j) (numerals-decimal ns (h .1) j)
 
 -- a mnemonic with its arguments reads back
 named-op : (o : Op) → (o ≡ faulty → ⊥) → named (mnemonic o) (arguments o) ≡ some o

@@ -8,7 +8,7 @@ use Rattle.theory.proofs.Bools.{clash, says-and, says-eq, says-itself}
 use Rattle.code.specs.Op.{Op, call, schedule, branch, jump, future, return}
 use Rattle.text.specs.Decimal.{decimal, wordOf}
 use Rattle.text.specs.Listing.{mnemonic, arguments}
-use Rattle.text.specs.ReadBack.{same, asPrinted, numeral, withNumber, numerals, withNone, withOne, withTwo, named}
+use Rattle.text.specs.ReadBack.{same, asPrinted, numeral, numberBefore, numerals, withNone, withOne, withTwo, named}
 use Rattle.text.proofs.Magnitude.{taken}
 
 -- texts that are the same are equal
@@ -37,7 +37,7 @@ numerals-print [] ns e = ap (map decimal) (Option·some-injective [] ns e)
 numerals-print (w ∷ ws) ns e = go (numeral w) refl (numerals ws) refl (numerals-print ws) e
   where
     go : (v : Option ℕ) → numeral w ≡ v → (vs : Option (List ℕ)) → numerals ws ≡ vs
-        → ((ms : List ℕ) → numerals ws ≡ some ms → ws ≡ map decimal ms) → withNumber v vs ≡ some ns → w ∷ ws ≡ map decimal ns
+        → ((ms : List ℕ) → numerals ws ≡ some ms → ws ≡ map decimal ms) → numberBefore v vs ≡ some ns → w ∷ ws ≡ map decimal ns
     go none f vs g ih e = absurd (Option·none-ne-some ns e)
     go (some n) f none g ih e = absurd (Option·none-ne-some ns e)
     go (some n) f (some ms) g ih e =

@@ -96,5 +96,5 @@ ended T [] = got T []
 ended T (z ∷ rest) = bad
 
 -- the program that a text says: the start mode, the ten tables, and nothing after them
-abbrev pub program : List ℕ → Read Tables
-program text = then (one (numbersOf (lines text))) (λ start rest. then (allOf shapes rest) (λ ts last. ended (placed start ts) last))
+abbrev pub programRead : List ℕ → Read Tables
+programRead text = then (one (numbersOf (lines text))) (λ start rest. then (allOf shapes rest) (λ ts last. ended (placed start ts) last))

@@ -22,7 +22,7 @@ abbrev pub linesOf : List Op → ℕ → ℕ → List ℕ
 linesOf os from next = linesFrom from (slice from next os)
 
 -- the lines of the instructions from one number up to another stand at the start of a slice, the rest is as it was
-pub record Written (os : List Op) (from : ℕ) (before after : List ℕ) (next len : ℕ) : Type 0 where
+pub record PageWritten (os : List Op) (from : ℕ) (before after : List ℕ) (next len : ℕ) : Type 0 where
   pub onward : from ≤ next
   pub inside : next ≤ max from (length os)
   pub within : len ≤ length before
@@ -40,6 +40,6 @@ pageEnd (suc left) os size next len = elim (ltb (size - len) room) [
 
 -- a page from this instruction on; with one line at least, where there is an instruction and room for any line
 pub record Filled (os : List Op) (from : ℕ) (before after : List ℕ) (p : Page) : Type 0 where
-  pub written : Written os from before after (p .next) (p .len)
+  pub written : PageWritten os from before after (p .next) (p .len)
   pub end : p .next ≡ pageEnd (length os - from) os (length before) from 0
   pub progress : from < length os → room ≤ length before → from < p .next

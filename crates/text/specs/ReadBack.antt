@@ -40,15 +40,15 @@ abbrev pub numeral : List ℕ → Option ℕ
 numeral word = asPrinted (wordOf word) word
 
 -- a number in front of numbers, where both were read
-abbrev pub withNumber : Option ℕ → Option (List ℕ) → Option (List ℕ)
-withNumber none ns = none
-withNumber (some n) none = none
-withNumber (some n) (some ns) = some (n ∷ ns)
+abbrev pub numberBefore : Option ℕ → Option (List ℕ) → Option (List ℕ)
+numberBefore none ns = none
+numberBefore (some n) none = none
+numberBefore (some n) (some ns) = some (n ∷ ns)
 
 -- the numbers that words are, where each is a printed one
 abbrev pub numerals : List (List ℕ) → Option (List ℕ)
 numerals [] = some []
-numerals (w ∷ ws) = withNumber (numeral w) (numerals ws)
+numerals (w ∷ ws) = numberBefore (numeral w) (numerals ws)
 
 -- an instruction without arguments, where none are given
 abbrev pub withNone : Op → List ℕ → Option Op

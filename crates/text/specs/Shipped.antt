@@ -10,7 +10,7 @@ use Rattle.program.specs.Tables.{Tables}
 use Rattle.code.specs.Compile.{listingOf, compileVerdict}
 use Rattle.text.specs.Decimal.{newline, decimal}
 use Rattle.text.specs.Listing.{listingText}
-use Rattle.text.specs.Input.{Read, bad, tooMany, got, program}
+use Rattle.text.specs.Input.{Read, bad, tooMany, got, programRead}
 
 -- the line of a text that is no program: b a d  i n p u t in ASCII
 abbrev pub badInput : List ℕ
@@ -21,16 +21,16 @@ abbrev pub verdictLine : ℕ → List ℕ
 verdictLine n = decimal n ++ (newline ∷ [])
 
 -- what is printed of a program with this verdict, compiled into a slice that holds the longest listing
-abbrev pub answered : Tables → ℕ → List ℕ
-answered T zero = verdictLine acceptedNumber ++ listingText (listingOf T)
-answered T (suc n) = verdictLine (suc n)
+abbrev pub printedFor : Tables → ℕ → List ℕ
+printedFor T zero = verdictLine acceptedNumber ++ listingText (listingOf T)
+printedFor T (suc n) = verdictLine (suc n)
 
 -- what is printed of what was read
 abbrev pub printed : Read Tables → List ℕ
 printed bad = badInput
 printed tooMany = verdictLine shapeRefused
-printed (got T rest) = answered T (compileVerdict (record { tables = T; slice = replicate (wordsEach * maxCode) 0 }))
+printed (got T rest) = printedFor T (compileVerdict (record { tables = T; slice = replicate (wordsEach * maxCode) 0 }))
 
 -- what the shipped program prints for a text
 unfoldable pub shipped : List ℕ → List ℕ
-shipped text = printed (program text)
+shipped text = printed (programRead text)

@@ -11,7 +11,7 @@ use Rattle.cells.specs.Refusals.{collisionRefused}
 use Rattle.program.specs.Tables.{Tables, taskCount}
 use Rattle.program.specs.Program.{Program}
 use Rattle.runs.specs.declared.turn.Turn.{Turn}
-use Rattle.runs.specs.Tick.{rest, work, after, afterTurn}
+use Rattle.runs.specs.Tick.{rest, work, leftAfter, afterTurn}
 use Rattle.runs.proofs.Turns.{turn-after}
 use Rattle.suppliers.specs.Schedule.{Rows}
 use Rattle.machine.specs.declared.State.{State}
@@ -125,8 +125,8 @@ module _ (S : List ℤ) (s : State) (all : Shares) (is-all : all ≡ sharesOf S 
           go : (w : Who) → running S s ≡ w → record { number = acceptedNumber; state = next } ≡ answer s (ticked P S results s w)
           go nobody e = absurd (omega (arith, counts nobody e))
           go (one t) e =
-              let l : left ≡ after (work t) (s .left) =
+              let l : left ≡ leftAfter (work t) (s .left) =
               is-left ∙ ap (λ (r : Running). afterTurn (turnIn r) (s .left)) (handed (one t) e) ∙ turn-after 0 (work t) (s .left) in
               let p : outputs ≡ outputsAfter P results s t = o ∙ ap (λ (r : Running). outputsAfter P results s (r .job .0)) (handed (one t) e) in
-              comes (after (work t) (s .left)) (outputsAfter P results s t) l p
+              comes (leftAfter (work t) (s .left)) (outputsAfter P results s t) l p
           go several e = absurd (omega (arith, counts several e))

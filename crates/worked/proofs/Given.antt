@@ -14,7 +14,7 @@ use Rattle.machine.specs.Instant.{Outcome, ok, stop}
 use Rattle.machine.specs.Schedules.{runsNow}
 use Rattle.machine.specs.Advance.{Lent, stateOf}
 use Rattle.demands.specs.Composed.{joined, configurationAt, SuitedAt, Right}
-use Rattle.demands.specs.Given.{Given, resultsOf, lentBy, Fed}
+use Rattle.demands.specs.Given.{Given, resultsOf, lentBy, LentFits}
 use Rattle.demands.specs.Kept.{InRound, readyAt, TickInWindow}
 use Rattle.demands.specs.Supplied.{worstTimes}
 use Rattle.demands.proofs.Supplied.{worst-fed}
@@ -52,10 +52,10 @@ unfolding computed
 F-results-0 = refl
 
 -- F and the monitor meet the premises
-F-fed : Fed F-program mix readings (λ k. worstTimes F-program)
+F-fed : LentFits F-program mix readings (λ k. worstTimes F-program)
 F-fed = worst-fed (F-system .tables) (windows-accepted _ (F-accepted .windows)) mix readings (λ n. refl)
 
-monitor-fed : Fed monitor-program mix gaps (λ k. worstTimes monitor-program)
+monitor-fed : LentFits monitor-program mix gaps (λ k. worstTimes monitor-program)
 monitor-fed = worst-fed (monitor-system .tables) (windows-accepted _ (monitor-accepted .windows)) mix gaps gaps-whole
 
 pub F-given : (n : ℕ) → Given F-program mix F-lent n

@@ -9,7 +9,7 @@ use Rattle.program.specs.Tables.{Tables, tablesIn}
 use Rattle.rules.specs.Verdict.{programVerdict}
 use Rattle.rules.proofs.Shape.{any-start}
 use Rattle.rules.proofs.Accepted.{accepted-clear, accepted-fields}
-use Rattle.compiler.specs.Listed.{Outcome, compiling}
+use Rattle.compiler.specs.Listed.{Compilation, compiling}
 use Rattle.compiler.proofs.Outcomes.{compiled-refused, compiled-listed}
 use Rattle.compiler.proofs.compile.Statement.{statement}
 use Rattle.compiler.proofs.compile.Tie as tie
@@ -30,7 +30,7 @@ returns c =
     let s = c .before .before .before in
     let v = c .before .program-verdict in
     let e = compiled-refused (compiling (lent s) (s .args .code .now)) (v .result) (sym (v .ensures)) (λ z. omega (arith, c .if1 .taken)) in
-    (ap (λ (o : Outcome). o .answer) e, ap (λ (o : Outcome). o .slice) e)
+    (ap (λ (o : Compilation). o .answer) e, ap (λ (o : Compilation). o .slice) e)
 
 index-requires : tie.Need-index-requires
 index-requires c κs = search needs
@@ -59,7 +59,7 @@ returns-2 c =
     c .before .before .before .before .of .ensures
     ∙ ap nameOf (c .before .before .before .before .before .index .ensures ∙ ap indexOf (back start (told .struct-told .given .0 .1))) in
     let same = c .before .before .listed .ensures start first (passed e) ∙ compiled-listed (compiling T (s .args .code .now)) (passed e) in
-    (ap (λ (o : Outcome). o .answer) same, ap (λ (o : Outcome). o .slice) same)
+    (ap (λ (o : Compilation). o .answer) same, ap (λ (o : Compilation). o .slice) same)
 
 pub compile-spec : {M : Type 1} → statement M
 compile-spec =

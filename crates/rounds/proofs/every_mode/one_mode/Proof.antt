@@ -10,7 +10,7 @@ use Rattle.layout.specs.declared.counts.Counts.{Counts}
 use Rattle.layout.specs.Counts.{countsIn}
 use Rattle.layout.proofs.Limits.{told-most, units-told}
 use Rattle.runs.specs.Round.{worstBreak, nothing}
-use Rattle.rounds.specs.Course.{courseIn, blockAt, blockIn, rowBefore}
+use Rattle.rounds.specs.Course.{courseIn, blockAt, rowsAtFuture, rowBefore}
 use Rattle.rounds.specs.Breaks.{rounded}
 use Rattle.rounds.proofs.every_mode.one_mode.Statement.{statement}
 use Rattle.rounds.proofs.every_mode.one_mode.Tie as tie
@@ -61,7 +61,7 @@ returns c start =
     ∙ (λ j.
     let counts : ℕ → Counts = countsIn (T .invocations) (T .updates) (T .switches) (a .sensors) (a .m .0) (n j) in
     let course = courseIn (T .tasks) (T .invocations) (a .windows .now) (a .supplier) (a .m .0) (n j) (c .before .period .ensures j / n j) in
-    rounded (worstBreak (course (blockIn (a .part .now) (a .supplier) counts (a .first))) nothing) (blockAt counts (a .first) (n j))
+    rounded (worstBreak (course (rowsAtFuture (a .part .now) (a .supplier) counts (a .first))) nothing) (blockAt counts (a .first) (n j))
     (rowBefore (a .part .now) (a .supplier) counts (a .first) (a .from) (n j)))
 
 pub one-mode-spec : {M : Type 1} → statement M

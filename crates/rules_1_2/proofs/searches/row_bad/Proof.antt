@@ -3,7 +3,8 @@ use mathlib.Core.Path.{refl, sym}
 use borrow.Author.Needs.{needs}
 use Rattle.cells.specs.Limits.{tableCount}
 use Rattle.program.specs.Tables.{tablesIn}
-use Rattle.rules_1_2.proofs.Rows.{row-at, kind-at, few-ports, few-tasks, few-drivers, few-modes, row-past, none-below}
+use Rattle.rules_1_2.proofs.Rows.{row-at, kind-at, ports-nameable, tasks-nameable, drivers-nameable, modes-nameable}
+use Rattle.rules_1_2.proofs.Rows.{row-past, none-below}
 use Rattle.rules_1_2.proofs.searches.row_bad.Statement.{statement}
 use Rattle.rules_1_2.proofs.searches.row_bad.Tie as tie
 
@@ -69,14 +70,14 @@ returns c start =
     let s = c .before .before .before .before in
     let a = s .args in
     let T = tablesIn (a .tables .now) start in
-    kind-at T (a .place) (a .row) (c .before .before .before .match .keys1) (few-ports T (s .pre .0 start)) (s .pre .1 start) (c .before .of .ensures) (c .port-bad .ensures T refl)
+    kind-at T (a .place) (a .row) (c .before .before .before .match .keys1) (ports-nameable T (s .pre .0 start)) (s .pre .1 start) (c .before .of .ensures) (c .port-bad .ensures T refl)
 
 returns-2 : tie.Need-returns-2
 returns-2 c start =
     let s = c .before .before .before .before in
     let a = s .args in
     let T = tablesIn (a .tables .now) start in
-    kind-at T (a .place) (a .row) (c .before .before .before .match .keys2) (few-tasks T (s .pre .0 start)) (s .pre .1 start) (c .before .of2 .ensures) (c .task-bad .ensures T refl)
+    kind-at T (a .place) (a .row) (c .before .before .before .match .keys2) (tasks-nameable T (s .pre .0 start)) (s .pre .1 start) (c .before .of2 .ensures) (c .task-bad .ensures T refl)
 
 returns-3 : tie.Need-returns-3
 returns-3 c start =
@@ -88,7 +89,7 @@ returns-4 c start =
     let s = c .before .before .before .before .before in
     let a = s .args in
     let T = tablesIn (a .tables .now) start in
-    kind-at T (a .place) (a .row) (c .before .before .before .before .match .keys4) (few-drivers T (s .pre .0 start)) (s .pre .1 start) (c .before .of3 .ensures) (c .driver-bad .ensures T refl refl)
+    kind-at T (a .place) (a .row) (c .before .before .before .before .match .keys4) (drivers-nameable T (s .pre .0 start)) (s .pre .1 start) (c .before .of3 .ensures) (c .driver-bad .ensures T refl refl)
 
 returns-5 : tie.Need-returns-5
 returns-5 c start =
@@ -100,7 +101,7 @@ returns-6 c start =
     let s = c .before .before .before .before in
     let a = s .args in
     let T = tablesIn (a .tables .now) start in
-    kind-at T (a .place) (a .row) (c .before .before .before .match .keys6) (few-modes T (s .pre .0 start)) (s .pre .1 start) (c .before .of4 .ensures) (c .mode-bad .ensures T refl)
+    kind-at T (a .place) (a .row) (c .before .before .before .match .keys6) (modes-nameable T (s .pre .0 start)) (s .pre .1 start) (c .before .of4 .ensures) (c .mode-bad .ensures T refl)
 
 returns-7 : tie.Need-returns-7
 returns-7 c start =

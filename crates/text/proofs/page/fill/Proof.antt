@@ -8,7 +8,7 @@ use Rattle.cells.specs.Limits.{wordsEach}
 use Rattle.code.specs.Op.{faulty, instructions}
 use Rattle.code.proofs.Fetch.{instructions-length}
 use Rattle.text.specs.Line.{room}
-use Rattle.text.specs.Page.{Written}
+use Rattle.text.specs.Page.{PageWritten}
 use Rattle.text.proofs.Filling.{Paged, paged-full, paged-last, paged-more, written-none, written-same, written-more, written-some}
 use Rattle.text.proofs.Said.{line-few}
 use Rattle.text.proofs.page.fill.Statement.{statement}
@@ -16,7 +16,7 @@ use Rattle.text.proofs.page.fill.Tie as tie
 
 abbrev Inv-loop : tie.InvT-loop
 Inv-loop code from out₀ count next₀ len₀ out next len =
-    Written (instructions code) from out₀ out next len × Paged (instructions code) (length out₀) from next len
+    PageWritten (instructions code) from out₀ out next len × Paged (instructions code) (length out₀) from next len
 
 abbrev μ-loop : tie.MeasureT-loop
 μ-loop code from out₀ count next₀ len₀ out next len = length code / wordsEach - next
