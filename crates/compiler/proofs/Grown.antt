@@ -7,8 +7,8 @@ use native.Mathlib.Omega.{arith}
 use lib.ListN.{length}
 use Rattle.theory.specs.Lists.{cat, sum}
 use Rattle.theory.proofs.Lists.{cat-length}
-use Rattle.writing.specs.Written.{Words, Written, writes}
-use Rattle.writing.proofs.Written.{writes-then, writes-length, written-at}
+use Rattle.words.specs.Written.{Words, Written, writes}
+use Rattle.words.proofs.Written.{writes-then, writes-length, written-at}
 
 -- after i of n pieces the loop is at `here`: it has written the first i pieces
 pub record Grown (piece : ℕ → List Words) (n i : ℕ) (start here : Written) : Type 0 where

@@ -24,7 +24,7 @@ use Rattle.code.proofs.Accepted.{accepted-aims}
 use Rattle.layout.specs.Counts.{countsOf, beforeFuture, sizeOf}
 use Rattle.layout.proofs.Sizes.{future-counted}
 use Rattle.layout.proofs.Laid.{counts-mode, start-mode}
-use Rattle.writing.specs.Written.{Words, three}
+use Rattle.words.specs.Written.{Words, three}
 use Rattle.writing.specs.Switches.{switchesIn, stubsIn}
 use Rattle.writing.specs.Block.{countsAt}
 use Rattle.compiler.specs.Rounds.{nextIn, blockIn, blockStart}

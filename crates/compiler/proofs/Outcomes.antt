@@ -21,10 +21,10 @@ use Rattle.code.specs.Compile.{Compiling, listingOf, codeLong, sliceShort, slic
 use Rattle.code.specs.declared.Compiled.{Compiled}
 use Rattle.layout.specs.declared.addresses.Layout.{Layout}
 use Rattle.layout.specs.Layout.{LaidOut}
-use Rattle.writing.specs.Written.{Words, three, Written, written, writes}
+use Rattle.words.specs.Written.{Words, three, Written, written, writes}
 use Rattle.compiler.specs.Modes.{allIn}
 use Rattle.compiler.specs.Listed.{compiling, Compilation, outcome, compiled, refused, accepted, listed}
-use Rattle.writing.proofs.Written.{writes-emit}
+use Rattle.words.proofs.Written.{writes-emit}
 use Rattle.compiler.proofs.Listed.{all-same}
 
 module _ (L : Compiling) where

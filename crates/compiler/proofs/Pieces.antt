@@ -14,7 +14,7 @@ use Rattle.program.specs.Program.{dueUpdates, dueSwitches, dueTasks}
 use Rattle.program.proofs.Decoded.{sensors-rows, due-invocations, due-updates, due-switches}
 use Rattle.code.specs.Op.{Op, schedule, jump}
 use Rattle.code.specs.Listing.{callDriver, callOutput, callSensor, entryAddress, headOf, bodyOf, stubsOf}
-use Rattle.writing.specs.Written.{Words, three}
+use Rattle.words.specs.Written.{Words, three}
 use Rattle.writing.specs.Rows.{isDue, dueAt, formRows, reading}
 use Rattle.writing.specs.Switches.{switchesIn, stubsIn}
 use Rattle.writing.specs.Block.{headIn, bodyIn}

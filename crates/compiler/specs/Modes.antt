@@ -8,7 +8,7 @@ use Rattle.program.specs.Sets.{sensorRows}
 use Rattle.program.specs.Units.{units}
 use Rattle.code.specs.Op.{jump}
 use Rattle.layout.specs.Layout.{startIn}
-use Rattle.writing.specs.Written.{Words, three}
+use Rattle.words.specs.Written.{Words, three}
 use Rattle.compiler.specs.Rounds.{roundIn}
 use Rattle.compiler.specs.declared.rounds.Round.{Round}
 

@@ -7,7 +7,7 @@ use Rattle.theory.specs.Lists.{cat, sum}
 use Rattle.program.specs.Tables.{Tables}
 use Rattle.layout.specs.declared.counts.Counts.{Counts}
 use Rattle.layout.specs.Counts.{beforeFuture, sizeOf}
-use Rattle.writing.specs.Written.{Words}
+use Rattle.words.specs.Written.{Words}
 use Rattle.writing.specs.Block.{partsIn, countsAt}
 use Rattle.writing.specs.declared.rows.Instant.{Instant}
 use Rattle.writing.specs.declared.blocks.Aim.{Aim}

@@ -9,7 +9,7 @@ ghost use Rattle.program.specs.Sets.{sensorRows};
 ghost use Rattle.rules.specs.Shape.{InShape};
 ghost use Rattle.layout.specs.Counts.{mostMode};
 ghost use Rattle.layout.specs.Few.{Periods};
-ghost use Rattle.writing.specs.Written.{written, writes};
+ghost use Rattle.words.specs.Written.{written, writes};
 ghost use Rattle.writing.specs.Switches.{Addresses};
 ghost use Rattle.compiler.specs.Modes.{modeIn, modesIn, allIn};
 use crate::rounds;
@@ -19,7 +19,6 @@ use cells::limits::Program;
 use cells::tables;
 use code::numbers;
 use program::multiples;
-use writing::words;
 
 // The blocks of mode m are written, of which the first stands at `at`. The address behind the mode is returned.
 fn one_mode(

@@ -10,7 +10,7 @@ ghost use Rattle.program.specs.Sets.{sensorRows};
 ghost use Rattle.rules.specs.Shape.{InShape};
 ghost use Rattle.layout.specs.Counts.{mostBlock, mostMode};
 ghost use Rattle.layout.specs.Few.{Sized};
-ghost use Rattle.writing.specs.Written.{written, writes};
+ghost use Rattle.words.specs.Written.{written, writes};
 ghost use Rattle.writing.specs.Switches.{Addresses};
 ghost use Rattle.compiler.specs.Rounds.{nextIn, aimIn, blockIn, roundIn};
 use cells::kinds::Mode;

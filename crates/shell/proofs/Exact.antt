@@ -22,14 +22,14 @@ use Rattle.intake.specs.Exact.{emptyRoom}
 use Rattle.intake.proofs.Cut.{cut-anywhere}
 use Rattle.intake.proofs.Exact.{reads-exactly}
 use Rattle.shell.specs.Reading.{Brought, end, failure, pieceOf, brought, Hearing, afterRead}
-use Rattle.shell.specs.Answer.{answerShown, blank}
-use Rattle.shell.specs.Writing.{bufferSize, emptyBuffer, openingOf, codeOf, pageOf, restOf, wroteOf, isWritten}
+use Rattle.answering.specs.Answer.{answerShown, blank}
+use Rattle.answering.specs.Writing.{bufferSize, emptyBuffer, openingOf, codeOf, pageOf, restOf, wroteOf, isWritten}
 use Rattle.shell.specs.Running.{heardIn, answerIn, Ran}
 use Rattle.shell.specs.Exact.{Buffers, Finished, pieces, piecesText, heardBy, answerTo, firstPage, Prints, RanWhole, BroughtExactly}
 use Rattle.shell.specs.Exact.{PrintsExactly, FailsPlainly, StopsDecided, StopsAtOnce}
-use Rattle.shell.proofs.Shipped.{read-text}
+use Rattle.answering.proofs.Shipped.{read-text}
 use Rattle.shell.proofs.Hearing.{brought-bytes, some-bytes, hears-one}
-use Rattle.shell.proofs.Handing.{first-pending, page-ready, taken-pending, taken-whole, writes-end}
+use Rattle.answering.proofs.Handing.{first-pending, page-ready, taken-pending, taken-whole, writes-end}
 use Rattle.shell.proofs.Pieces.{pieces-heard, stopped-heard, going-heard}
 use Rattle.shell.proofs.AtOnce.{noNumber, heard-bad, spoilt-bad}
 

@@ -1,7 +1,5 @@
 -- What is printed is what document 01 says.
-pub mod Shipped
 pub mod Hearing
-pub mod Handing
 pub mod Running
 pub mod Pieces
 pub mod AtOnce

@@ -8,9 +8,9 @@ use lib.ListN.{length}
 use Rattle.text.specs.Line.{room}
 use Rattle.intake.specs.Line.{Fed}
 use Rattle.intake.specs.Heard.{heard}
-use Rattle.shell.specs.Answer.{Answered, answerShown, blank}
+use Rattle.answering.specs.Answer.{Answered, answerShown, blank}
 use Rattle.shell.specs.Reading.{Hearing, hearing, AfterSome}
-use Rattle.shell.specs.Writing.{pageOf, Printed}
+use Rattle.answering.specs.Writing.{pageOf, Printed}
 use Rattle.shell.specs.Running.{Ran}
 
 -- some reads, the answer to what was heard and some writes of it are a run of the program

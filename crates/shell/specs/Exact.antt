@@ -13,9 +13,9 @@ use Rattle.text.specs.Line.{room}
 use Rattle.text.specs.Shipped.{badInput, verdictLine, printed, shipped}
 use Rattle.intake.specs.Heard.{heard}
 use Rattle.intake.specs.Exact.{Roomy}
-use Rattle.shell.specs.Answer.{Answered}
+use Rattle.answering.specs.Answer.{Answered}
 use Rattle.shell.specs.Reading.{Brought, piece, end, failure, brought, Hearing}
-use Rattle.shell.specs.Writing.{Spread, pageOf, pageLeft, takenOf, pendingOf, isWritten}
+use Rattle.answering.specs.Writing.{Spread, pageOf, pageLeft, takenOf, pendingOf, isWritten}
 use Rattle.shell.specs.Running.{heardIn, answerIn, Ran}
 
 -- the buffers that the program works in: room for the largest program, and for any line

@@ -1,6 +1,4 @@
--- What the shipped program answers to what it has read, what it does between its reads and writes, and what is promised.
-pub mod Answer
+-- What the shipped program does between its reads, what both its loops come to, and what is promised.
 pub mod Reading
-pub mod Writing
 pub mod Running
 pub mod Exact

@@ -7,9 +7,9 @@ use lib.IntN.{ℤ}
 use lib.ListN.{length}
 use Rattle.text.specs.Line.{room}
 use Rattle.intake.specs.Heard.{heard}
-use Rattle.shell.specs.Answer.{Answered, answerShown, blank}
+use Rattle.answering.specs.Answer.{Answered, answerShown, blank}
 use Rattle.shell.specs.Reading.{Brought, Hearing, hears, silent}
-use Rattle.shell.specs.Writing.{pageOf, Printed}
+use Rattle.answering.specs.Writing.{pageOf, Printed}
 
 -- what is known after these reads into these tables
 abbrev pub heardIn : List ℤ → List Brought → Hearing

@@ -1,17 +1,16 @@
 // The body of the shipped program: reads a program from one descriptor, compiles it, and prints on another.
-mod answer;
-mod memory;
-mod pages;
-mod printing;
-mod reading;
-
 ghost use Prim.Native.Nat.{_≤_};
 ghost use mathlib.Core.Path.{_≡_};
 ghost use lib.ListN.{length};
 ghost use Rattle.text.specs.Line.{room};
 ghost use Rattle.intake.specs.Exact.{Roomy};
-ghost use Rattle.shell.specs.Answer.{blank};
+ghost use Rattle.answering.specs.Answer.{blank};
 ghost use Rattle.shell.specs.Running.{Ran};
+use answering::answer;
+use answering::memory;
+use answering::printing;
+
+mod reading;
 
 // The program runs in lent memory; nothing is printed before all of it is decided. Whether all of it was written is returned.
 fn ran(input: i32, output: i32, tables: &mut [i32], code: &mut [u32], buffer: &mut [u8]) -> bool

@@ -7,8 +7,8 @@ use native.Mathlib.Omega.{arith}
 use lib.ListN.{length}
 use Rattle.theory.specs.Lists.{those}
 use Rattle.theory.proofs.Lists.{those-yes, those-no}
-use Rattle.writing.specs.Written.{Words, Written, writes}
-use Rattle.writing.proofs.Written.{writes-append, writes-at, writes-length}
+use Rattle.words.specs.Written.{Words, Written, writes}
+use Rattle.words.proofs.Written.{writes-append, writes-at, writes-length}
 
 -- A loop has passed i rows and is at `here`: to write the rest from here comes to the same as to write all from the start.
 -- What the rest is, from row i on, may depend on the address of the next instruction.

@@ -17,7 +17,7 @@ use Rattle.code.proofs.Length.{tests-length}
 use Rattle.layout.specs.Counts.{beforeTests, sizeOf}
 use Rattle.layout.specs.Few.{Sized}
 use Rattle.layout.proofs.Limits.{counts-sized, few-rows, few-sensors}
-use Rattle.writing.specs.Written.{three}
+use Rattle.words.specs.Written.{three}
 use Rattle.writing.specs.Rows.{isDue, dueAt, formWidth, rowWords, formRows, reading}
 use Rattle.writing.specs.Switches.{switchIn, switchesIn, stubsIn}
 use Rattle.writing.specs.Block.{headIn, bodyIn, partsIn, countsAt}

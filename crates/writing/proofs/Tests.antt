@@ -11,7 +11,7 @@ use Rattle.program.specs.Program.{Switch}
 use Rattle.code.specs.Op.{Op, branch, jump}
 use Rattle.code.specs.Listing.{callDriver, testsOf}
 use Rattle.code.proofs.Length.{tests-length}
-use Rattle.writing.specs.Written.{Words, three}
+use Rattle.words.specs.Written.{Words, three}
 use Rattle.writing.specs.Switches.{stubsIn}
 use Rattle.writing.proofs.Left.{those-all, those-next}
 

@@ -11,7 +11,7 @@ use Rattle.code.specs.Op.{future, return}
 use Rattle.code.specs.Listing.{testsOf}
 use Rattle.layout.specs.declared.counts.Counts.{Counts}
 use Rattle.layout.specs.Counts.{countsIn}
-use Rattle.writing.specs.Written.{Words, three}
+use Rattle.words.specs.Written.{Words, three}
 use Rattle.writing.specs.Rows.{reading, formRows}
 use Rattle.writing.specs.Switches.{switchesIn, stubsIn}
 use Rattle.writing.specs.declared.rows.Form.the-variants.{OutputCopy, Update, TaskDriver, Schedule}

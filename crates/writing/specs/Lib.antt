@@ -1,5 +1,4 @@
 -- E code of a block as it is written into a lent slice.
-pub mod Written
 pub mod Rows
 pub mod Switches
 pub mod Block

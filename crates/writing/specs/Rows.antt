@@ -8,7 +8,7 @@ use Rattle.program.specs.Tables.{invocationWidth, invocationTaskColumn, invocat
 use Rattle.program.specs.Units.{rowDue, dueRows}
 use Rattle.code.specs.Op.{schedule}
 use Rattle.code.specs.Listing.{callDriver, callOutput, callSensor}
-use Rattle.writing.specs.Written.{Words, three}
+use Rattle.words.specs.Written.{Words, three}
 use Rattle.writing.specs.declared.rows.Form.{Form}
 use Rattle.writing.specs.declared.rows.Form.the-variants.{OutputCopy, Update, TaskDriver, Schedule}
 use Rattle.writing.specs.declared.rows.Instant.{Instant}

@@ -7,7 +7,7 @@ use borrow.Author.Needs.{needs}
 use Rattle.cells.specs.Cell.{greatestWord}
 use Rattle.program.specs.Tables.{tablesIn, modeCount}
 use Rattle.code.specs.Op.{jump}
-use Rattle.writing.specs.Written.{Written, three, written, writes}
+use Rattle.words.specs.Written.{Written, three, written, writes}
 use Rattle.compiler.specs.Modes.{modesIn}
 use Rattle.compiler.proofs.listing.all.Statement.{statement}
 use Rattle.compiler.proofs.listing.all.Tie as tie

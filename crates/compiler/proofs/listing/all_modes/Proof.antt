@@ -16,7 +16,7 @@ use Rattle.rules.specs.Shape.{shapeBad}
 use Rattle.layout.specs.Layout.{sizeIn}
 use Rattle.layout.proofs.Limits.{few-rows, few-modes, few-sensors}
 use Rattle.layout.proofs.Laid.{start-near}
-use Rattle.writing.specs.Written.{Words, written, writes}
+use Rattle.words.specs.Written.{Words, written, writes}
 use Rattle.compiler.specs.Modes.{modeIn, modeStart}
 use Rattle.compiler.proofs.Grown.{Grown, grown-none, grown-more, grown-all, grown-length, grown-at}
 use Rattle.compiler.proofs.Modes.{mode-length}

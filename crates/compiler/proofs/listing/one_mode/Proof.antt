@@ -9,7 +9,7 @@ use Rattle.cells.specs.Cell.{greatestWord}
 use Rattle.cells.specs.Limits.{maxUnits}
 use Rattle.program.specs.Tables.{tablesIn}
 use Rattle.layout.proofs.Limits.{units-told}
-use Rattle.writing.specs.Written.{Words, written, writes}
+use Rattle.words.specs.Written.{Words, written, writes}
 use Rattle.compiler.proofs.Modes.{mode-told}
 use Rattle.compiler.proofs.listing.one_mode.Statement.{statement}
 use Rattle.compiler.proofs.listing.one_mode.Tie as tie

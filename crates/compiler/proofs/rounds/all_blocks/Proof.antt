@@ -8,7 +8,7 @@ use borrow.Author.Needs.{needs}
 use Rattle.program.specs.Tables.{Tables, tablesIn}
 use Rattle.layout.specs.Counts.{sizeOf}
 use Rattle.compiler.specs.declared.rounds.Round.{Round}
-use Rattle.writing.specs.Written.{Words, written, writes}
+use Rattle.words.specs.Written.{Words, written, writes}
 use Rattle.writing.specs.Block.{countsAt}
 use Rattle.compiler.specs.Rounds.{unitOf, blockIn, blockStart}
 use Rattle.compiler.proofs.Grown.{Grown, grown-none, grown-more, grown-all, grown-length, grown-at}

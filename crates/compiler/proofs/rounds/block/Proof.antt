@@ -8,7 +8,7 @@ use Rattle.layout.specs.declared.counts.Counts.{Counts}
 use Rattle.layout.specs.Counts.{countsIn}
 use Rattle.layout.specs.Few.{Sized}
 use Rattle.writing.specs.declared.blocks.Aim.{Aim}
-use Rattle.writing.specs.Written.{written, writes}
+use Rattle.words.specs.Written.{written, writes}
 use Rattle.writing.specs.Block.{Aimed, partsIn, countsAt}
 use Rattle.compiler.specs.Rounds.{unitOf, aimIn}
 use Rattle.writing.proofs.Parts.{sized}

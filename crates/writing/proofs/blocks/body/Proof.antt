@@ -1,10 +1,10 @@
 -- `writing::blocks::body` meets its contract: the schedules stand behind the drivers.
 use native.Mathlib.Omega.{arith}
 use borrow.Author.Needs.{needs}
-use Rattle.writing.specs.Written.{written}
+use Rattle.words.specs.Written.{written}
 use Rattle.writing.specs.Rows.{formRows}
 use Rattle.writing.specs.declared.rows.Form.the-variants.{TaskDriver, Schedule}
-use Rattle.writing.proofs.Written.{writes-then, written-at}
+use Rattle.words.proofs.Written.{writes-then, written-at}
 use Rattle.writing.proofs.Parts.{form-most}
 use Rattle.writing.proofs.blocks.body.Statement.{statement}
 use Rattle.writing.proofs.blocks.body.Tie as tie

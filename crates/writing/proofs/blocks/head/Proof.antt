@@ -6,10 +6,10 @@ use native.Mathlib.Omega.{arith}
 use lib.ListN.{length}
 use borrow.Author.Needs.{needs}
 use Rattle.program.specs.Sets.{sensorRows}
-use Rattle.writing.specs.Written.{Words, written}
+use Rattle.words.specs.Written.{Words, written}
 use Rattle.writing.specs.Rows.{formRows, reading}
 use Rattle.writing.specs.declared.rows.Form.the-variants.{OutputCopy, Update}
-use Rattle.writing.proofs.Written.{writes-then, written-at}
+use Rattle.words.proofs.Written.{writes-then, written-at}
 use Rattle.writing.proofs.Parts.{form-most}
 use Rattle.writing.proofs.blocks.head.Statement.{statement}
 use Rattle.writing.proofs.blocks.head.Tie as tie

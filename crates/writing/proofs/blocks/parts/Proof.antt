@@ -13,10 +13,10 @@ use Rattle.code.specs.Listing.{testsOf}
 use Rattle.layout.specs.declared.counts.Counts.{Counts}
 use Rattle.layout.specs.Counts.{beforeTests, beforeEntry, beforeFuture}
 use Rattle.layout.proofs.Limits.{few-rows}
-use Rattle.writing.specs.Written.{Words, three, written}
+use Rattle.words.specs.Written.{Words, three, written}
 use Rattle.writing.specs.Switches.{switchesIn, stubsIn}
 use Rattle.writing.specs.Block.{headIn, bodyIn, endIn, countsAt}
-use Rattle.writing.proofs.Written.{writes-then, written-at}
+use Rattle.words.proofs.Written.{writes-then, written-at}
 use Rattle.writing.proofs.Parts.{head-count, tests-count, body-count, sized}
 use Rattle.writing.proofs.blocks.parts.Statement.{statement}
 use Rattle.writing.proofs.blocks.parts.Tie as tie

@@ -9,7 +9,7 @@ use lib.ListN.{length}
 use Rattle.theory.specs.Lists.{those}
 use Rattle.theory.proofs.Lists.{those-end, those-few}
 use Rattle.cells.specs.Cell.{rowsIn}
-use Rattle.writing.specs.Written.{Words, written}
+use Rattle.words.specs.Written.{Words, written}
 use Rattle.writing.specs.Rows.{isDue, formWidth, rowWords}
 use Rattle.writing.specs.declared.rows.Form.{Form}
 use Rattle.writing.specs.declared.rows.Instant.{Instant}

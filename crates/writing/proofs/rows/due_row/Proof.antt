@@ -6,7 +6,7 @@ use mathlib.Core.List.{List}
 use borrow.Author.Needs.{needs}
 use Rattle.cells.specs.Cell.{Column}
 use Rattle.program.specs.Tables.{frequencyColumn}
-use Rattle.writing.specs.Written.{Words, written, writes}
+use Rattle.words.specs.Written.{Words, written, writes}
 use Rattle.writing.specs.Rows.{isDue, formWidth, rowWords}
 use Rattle.writing.proofs.Forms.{form-column}
 use Rattle.writing.proofs.Left.{one-yes, one-no}

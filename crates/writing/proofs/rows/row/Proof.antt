@@ -5,7 +5,7 @@ use mathlib.Core.List.{[], _∷_}
 use borrow.Author.Needs.{needs}
 use Rattle.code.specs.Op.{Op, schedule}
 use Rattle.code.specs.Listing.{callDriver, callOutput}
-use Rattle.writing.specs.Written.{Words, Written, three, written, writes}
+use Rattle.words.specs.Written.{Words, Written, three, written, writes}
 use Rattle.writing.specs.Rows.{rowWords}
 use Rattle.writing.specs.declared.rows.Form.{Form}
 use Rattle.writing.proofs.rows.row.Statement.{statement}

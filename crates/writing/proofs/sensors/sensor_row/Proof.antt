@@ -4,7 +4,7 @@ use mathlib.Core.List.{List}
 use borrow.Author.Needs.{needs}
 use borrow.Author.Tests.{eq-eqb, ne-eqb}
 use Rattle.program.specs.Sets.{isSensor}
-use Rattle.writing.specs.Written.{Words, written, writes}
+use Rattle.words.specs.Written.{Words, written, writes}
 use Rattle.writing.specs.Rows.{reading}
 use Rattle.writing.proofs.Left.{one-yes, one-no}
 use Rattle.writing.proofs.sensors.sensor_row.Statement.{statement}

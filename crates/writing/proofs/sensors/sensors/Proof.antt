@@ -11,7 +11,7 @@ use Rattle.theory.proofs.Lists.{those-end, those-few}
 use Rattle.cells.specs.Cell.{rowsIn}
 use Rattle.cells.proofs.Names.{name-small, next-name, plus-one}
 use Rattle.program.specs.Tables.{portWidth}
-use Rattle.writing.specs.Written.{Words, written}
+use Rattle.words.specs.Written.{Words, written}
 use Rattle.program.specs.Sets.{isSensor}
 use Rattle.writing.specs.Rows.{reading}
 use Rattle.writing.proofs.Left.{Left, left-all, left-at, left-length, left-more, left-none, those-all, those-next}

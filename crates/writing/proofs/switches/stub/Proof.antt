@@ -4,7 +4,7 @@ use mathlib.Core.List.{[], _∷_}
 use native.Mathlib.Omega.{arith}
 use borrow.Author.Needs.{needs}
 use Rattle.code.specs.Op.{jumpNumber}
-use Rattle.writing.specs.Written.{Written, instruction, writes}
+use Rattle.words.specs.Written.{Written, instruction, writes}
 use Rattle.writing.proofs.switches.stub.Statement.{statement}
 use Rattle.writing.proofs.switches.stub.Tie as tie
 

@@ -9,7 +9,7 @@ use Rattle.program.specs.Tables.{switchWidth}
 use Rattle.program.specs.Program.{Switch}
 use Rattle.code.specs.Op.{jump}
 use Rattle.code.specs.Listing.{callDriver}
-use Rattle.writing.specs.Written.{three, written, writes}
+use Rattle.words.specs.Written.{three, written, writes}
 use Rattle.writing.specs.Rows.{isDue}
 use Rattle.writing.specs.Switches.{switchIn, stubsIn}
 use Rattle.writing.proofs.Left.{one-yes, one-no}

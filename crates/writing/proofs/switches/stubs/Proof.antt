@@ -8,7 +8,7 @@ use Rattle.theory.specs.Lists.{those}
 use Rattle.cells.specs.Cell.{rowsIn}
 use Rattle.program.specs.Tables.{switchWidth}
 use Rattle.writing.specs.declared.rows.Instant.{Instant}
-use Rattle.writing.specs.Written.{Words, three, written}
+use Rattle.words.specs.Written.{Words, three, written}
 use Rattle.writing.specs.Rows.{isDue}
 use Rattle.writing.specs.Switches.{switchIn, stubsIn}
 use Rattle.writing.proofs.Left.{Left, left-all, left-at, left-length, left-more, left-none}

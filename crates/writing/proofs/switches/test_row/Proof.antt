@@ -7,7 +7,7 @@ use Rattle.program.specs.Tables.{switchWidth}
 use Rattle.program.specs.Program.{Switch}
 use Rattle.code.specs.Listing.{testsOf}
 use Rattle.code.specs.Op.{branch}
-use Rattle.writing.specs.Written.{Words, three, written, writes}
+use Rattle.words.specs.Written.{Words, three, written, writes}
 use Rattle.writing.specs.Rows.{isDue}
 use Rattle.writing.specs.Switches.{switchIn}
 use Rattle.writing.proofs.Left.{one-yes, one-no}

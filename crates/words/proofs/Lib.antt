@@ -1,0 +1,2 @@
+-- Laws of written instructions that belong to no one function. Crates above cite them.
+pub mod Written
