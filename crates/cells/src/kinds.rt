@@ -1,4 +1,4 @@
-// The four kinds of number: a driver number never indexes the task table. What a kind's number is, only this crate can ask.
+// The four kinds of number: a driver number never indexes the task table. Only this crate reads a row by a kind's number.
 ghost use Prim.Native.Nat.{suc};
 ghost use mathlib.Core.Path.{_≡_};
 ghost use lib.Dec.{eqb};
