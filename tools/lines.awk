@@ -40,13 +40,14 @@ function end_file() {
     return 0
 }
 
-# The next line into `text`, ended in either way; 0 behind the last.
+# The next line into `text` and `whole`, ended in either way; 0 behind the last.
 function next_line(    got) {
     got = (getline text < source)
     if (got < 0) wrong_file("cannot be read")
     if (got == 0) return end_file()
     at++
     sub(/\r$/, "", text)
+    whole = text
     return 1
 }
 

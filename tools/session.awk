@@ -16,7 +16,7 @@ BEGIN {
 function check_listing(file, table,    a) {
     open_file(file)
     if (!next_line()) wrong_file("is empty, what `./run toporasca` prints for " table " was expected")
-    if (text ~ /^[1-9][0-9]*$/) wrong("the program is refused with " text " (docs/NUMBERS.md)")
+    if (text ~ /^[1-9][0-9]*( [0-9]+ [0-9]+)?$/) wrong("the program is refused with " text " (docs/NUMBERS.md)")
     if (text != "0") wrong("is " shown(text) ", a listing begins with `0`")
     compile(table)
     for (a = 0; a < code_size; a++) {
@@ -32,7 +32,7 @@ function join_parts(first,    i, s, before) {
     for (i = first; i < ARGC; i++) {
         read_rows(ARGV[i], "part")
         s = one_supplier()
-        if (s <= before) wrong_at(line_of[0], "supplier " s " behind supplier " before ", one file each and the lowest first was expected")
+        if (s <= before) wrong_at(line_of["part", 0], "supplier " s " behind supplier " before ", one file each and the lowest first was expected")
         append_part()
         given[s] = 1
         before = s
@@ -53,17 +53,17 @@ function check_given(    r, t, s) {
 function one_supplier(    s, r) {
     if (rows["part"] == 0) wrong_file("has no row, a supplier's part of the schedule was expected")
     s = of("part", 0, "SUPPLIER")
-    if (s < 0 || s >= constant("SUPPLIERS")) wrong_at(line_of[0], "supplier " s " is not 0 to " (constant("SUPPLIERS") - 1))
+    if (s < 0 || s >= constant("SUPPLIERS")) wrong_at(line_of["part", 0], "supplier " s " is not 0 to " (constant("SUPPLIERS") - 1))
     for (r = 1; r < rows["part"]; r++)
         if (of("part", r, "SUPPLIER") != s)
-            wrong_at(line_of[r], "a row of supplier " of("part", r, "SUPPLIER") " in the part of supplier " s)
+            wrong_at(line_of["part", r], "a row of supplier " of("part", r, "SUPPLIER") " in the part of supplier " s)
     return s
 }
 
 function append_part(    r, c) {
     for (r = 0; r < rows["part"]; r++) {
         if (rows["schedule"] == most["schedule"])
-            wrong_at(line_of[r], "all parts together have at most " counted(most["schedule"], "row"))
+            wrong_at(line_of["part", r], "all parts together have at most " counted(most["schedule"], "row"))
         for (c = 0; c < width["part"]; c++) cell["schedule", rows["schedule"], c] = cell["part", r, c]
         rows["schedule"]++
     }

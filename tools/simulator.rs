@@ -241,8 +241,9 @@ impl Program {
     }
 }
 
+// The number, its place, which is 0 0 of the numbers that arise in a run, and the state.
 fn line(number: usize, s: &State) -> String {
-    let mut all: Vec<i64> = vec![number as i64];
+    let mut all: Vec<i64> = vec![number as i64, 0, 0];
     all.extend(&s.ports);
     all.extend(&s.outputs);
     all.push(s.time as i64);

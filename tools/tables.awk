@@ -47,7 +47,8 @@ function read_row(name,    word, n, i) {
     for (i = 1; i <= n; i++) check_number(word[i])
     if (n != width[name]) wrong("a row of `" name "` has " counted(width[name], "number") ", not " n)
     if (rows[name] == most[name]) wrong("`" name "` has at most " counted(most[name], "row"))
-    line_of[rows[name]] = at
+    line_of[name, rows[name]] = at
+    whole_of[name, rows[name]] = whole
     for (i = 1; i <= n; i++) cell[name, rows[name], i - 1] = word[i]
     rows[name]++
 }

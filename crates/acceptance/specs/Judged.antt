@@ -1,14 +1,13 @@
 -- What the two calls are lent; numbers 2 to 12, which both ask after their own 1.
-use Prim.Native.Nat.{ℕ}
 use mathlib.Core.List.{List}
 use lib.IntN.{ℤ}
-use Rattle.theory.specs.Verdict.{acceptedNumber, orElse, after}
+use Rattle.theory.specs.Verdict.{rowsAnswer, orNext}
+use Rattle.theory.specs.declared.Answer.{Answer}
 use Rattle.cells.specs.Refusals.{windowsRefused}
 use Rattle.program.specs.Tables.{Tables}
-use Rattle.verdict_2_11.specs.Tables.{tablesAndCodeVerdict}
-use Rattle.suppliers.specs.Windows.{Windowed, windowsBad}
+use Rattle.verdict_2_11.specs.Tables.{tablesAndCodeAnswer}
+use Rattle.suppliers.specs.Windows.{Windowed, windowTests}
 use Rattle.suppliers.specs.Supplier.{Asked}
-use Rattle.suppliers.specs.declared.Answer.{Answer}
 
 -- tables and windows, as the windows verdict is lent them
 abbrev pub windowed : Tables → List ℤ → Windowed
@@ -18,10 +17,6 @@ windowed T W = record { tables = T; windows = W }
 abbrev pub asked : Tables → List ℤ → List ℤ → ℤ → Asked
 asked T W S s = record { tables = T; windows = W; part = S; supplier = s }
 
--- numbers 2 to 12 of tables and windows that have their shape: 2 to 11 of the tables, then 12
-unfoldable pub shapedVerdict : Windowed → ℕ
-shapedVerdict L = after (tablesAndCodeVerdict (L .tables)) (orElse (windowsBad L) windowsRefused acceptedNumber)
-
--- an answer without a place
-abbrev pub refusal : ℕ → Answer
-refusal n = record { number = n; mode = 0; tick = 0 }
+-- the answer of numbers 2 to 12 on tables and windows that have their shape: 2 to 11 of the tables, then 12
+unfoldable pub shapedAnswer : Windowed → Answer
+shapedAnswer L = orNext (tablesAndCodeAnswer (L .tables)) (rowsAnswer windowsRefused (windowTests L))

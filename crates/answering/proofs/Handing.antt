@@ -5,7 +5,7 @@ use mathlib.Core.Bool.{Bool, true, false, cond}
 use mathlib.Core.List.{List, [], _∷_, _++_, append-assoc, append-nil}
 use native.Mathlib.Decide.{decLt}
 use native.Mathlib.Omega.{arith}
-use lib.Dec.{eqb, ltb}
+use lib.Dec.{ltb}
 use lib.ListN.{length, take, drop, length-append, length-take, length-drop, take-append-drop, drop-of-length-le}
 use lib.Seq.{length-take-le, take-append-seam, take-all, drop-drop}
 use borrow.Author.Tests.{ltb-true, ltb-false, eqb-true, eq-eqb, ne-eqb}
@@ -13,16 +13,15 @@ use Rattle.theory.specs.Lists.{Every}
 use Rattle.theory.proofs.Conditions.{cond-all}
 use Rattle.cells.specs.Limits.{wordsEach}
 use Rattle.code.specs.Op.{Op, instructions}
-use Rattle.text.specs.Decimal.{newline, decimal}
 use Rattle.text.specs.Line.{room, Holds}
 use Rattle.text.specs.Listing.{linesFrom, listingText}
 use Rattle.text.specs.Page.{Laid, linesOf, pageEnd, Filled}
 use Rattle.text.specs.declared.line.Line.{Line}
 use Rattle.text.specs.declared.page.Page.{Page}
-use Rattle.text.specs.Shipped.{badInput, verdictLine}
-use Rattle.text.proofs.Decimals.{decimal-few}
+use Rattle.text.specs.Shipped.{badInput, answerLine}
+use Rattle.text.proofs.Answers.{line-some, answer-few}
 use Rattle.text.proofs.PageEnd.{Ends, page-ends, page-goes, lines-some, lines-cut}
-use Rattle.answering.specs.Answer.{Answered, answered, textOfAnswer}
+use Rattle.answering.specs.Answer.{Answered, textOfAnswer}
 use Rattle.answering.specs.declared.answer.Shown.{Shown}
 use Rattle.answering.specs.Writing.{openingOf, codeOf, opsOf, Spread, spread, laid, pageOf, restOf, onward, wroteOf, pageLeft, takenOf}
 use Rattle.answering.specs.Writing.{pendingOf, isWritten, AfterWrites}
@@ -42,8 +41,8 @@ unfolding openingOf codeOf textOfAnswer
 opening-text a = go (a .shown .bad)
   where
     go : (b : Bool)
-        → cond b badInput (verdictLine (a .shown .number)) ++ listingText (instructions (take (wordsEach * cond b 0 (a .shown .length)) (a .code)))
-        ≡ cond b badInput (verdictLine (a .shown .number) ++ listingText (instructions (take (wordsEach * a .shown .length) (a .code))))
+        → cond b badInput (answerLine (a .shown .answer)) ++ listingText (instructions (take (wordsEach * cond b 0 (a .shown .length)) (a .code)))
+        ≡ cond b badInput (answerLine (a .shown .answer) ++ listingText (instructions (take (wordsEach * a .shown .length) (a .code))))
     go true = append-nil badInput
     go false = refl
 
@@ -55,10 +54,8 @@ pub record Short (text : List ℕ) : Type 0 where
 pub opening-line : (s : Shown) → Short (openingOf s)
 unfolding openingOf
 opening-line s =
-    cond-all Short (s .bad) badInput (verdictLine (s .number)) (λ e. record { some = omega arith; few = omega arith })
-    (λ e.
-    let n = length-append (decimal (s .number)) (newline ∷ []) in
-    record { some = omega (arith, n); few = omega (arith, n, decimal-few (s .number)) })
+    cond-all Short (s .bad) badInput (answerLine (s .answer)) (λ e. record { some = omega arith; few = omega arith })
+    (λ e. record { some = line-some (s .answer); few = answer-few (s .answer) })
 
 module _ (a : Answered) (from : ℕ) (buffer : List ℕ) where
   -- where the page from an instruction on ends

@@ -1,19 +1,22 @@
 -- What is printed of the answer to what was read is what document 01 has the program print.
 use Prim.Native.Nat.{ℕ, zero, suc, _*_}
 use mathlib.Core.Path.{_≡_, refl, sym, ap, _∙_}
-use mathlib.Core.List.{List, _++_, append-nil}
+use mathlib.Core.List.{List, [], _++_, append-nil}
 use mathlib.Core.Option.{Option}
+use native.Mathlib.Omega.{arith}
 use lib.IntN.{ℤ}
-use lib.ListN.{replicate}
-use Rattle.theory.specs.Verdict.{acceptedNumber}
+use lib.ListN.{take, replicate}
+use Rattle.theory.specs.Rows.{placeless}
 use Rattle.cells.specs.Limits.{maxCode, wordsEach}
+use Rattle.cells.specs.Refusals.{shapeRefused}
 use Rattle.program.specs.Tables.{Tables}
 use Rattle.code.specs.Op.{instructions}
 use Rattle.code.specs.Compile.{Compiling, listingOf, compileVerdict, compileAnswer, compileSlice, wordsOf}
+use Rattle.code.proofs.Answers.{compile-number, compile-refused}
 use Rattle.code.proofs.Words.{emit-instructions, words-are}
 use Rattle.text.specs.Listing.{listingText}
 use Rattle.text.specs.Input.{Read, bad, tooMany, got, programRead}
-use Rattle.text.specs.Shipped.{verdictLine, printedFor, printed, shipped}
+use Rattle.text.specs.Shipped.{answerLine, printedFor, printed, shipped}
 use Rattle.answering.specs.Answer.{answerShown, blank, textOfAnswer}
 
 -- what is printed of the answer to a program that was read is what the definition says
@@ -24,21 +27,24 @@ compiled-text T rest = go (compileVerdict L) refl
     L : Compiling
     L = record { tables = T; slice = replicate (wordsEach * maxCode) 0 }
 
-    number : compileVerdict L ≡ acceptedNumber → compileAnswer L .number ≡ acceptedNumber
-    number e = rw (e, compileAnswer)
+    -- the first line, and behind it the listing for the number 0
+    opened : List ℕ → List ℕ
+    opened l = answerLine (compileAnswer L .answer) ++ l
 
-    go : (n : ℕ) → compileVerdict L ≡ n
-        → verdictLine (compileAnswer L .number) ++ listingText (instructions (wordsOf L)) ≡ printedFor T (compileVerdict L)
+    go : (n : ℕ) → compileVerdict L ≡ n → opened (listingText (instructions (wordsOf L))) ≡ printedFor T (compileAnswer L)
     go zero e =
-        (λ i. verdictLine (number e i) ++ listingText (instructions (words-are L e i)))
-        ∙ ap (λ l. verdictLine acceptedNumber ++ listingText l) (emit-instructions (listingOf T)) ∙ ap (printedFor T) (sym e)
-    go (suc n) e = rw (e, compileAnswer, compileSlice) (append-nil (verdictLine (suc n)))
+        ap (λ (l : List ℕ). opened (listingText (instructions l))) (words-are L e)
+        ∙ ap (λ l. opened (listingText l)) (emit-instructions (listingOf T))
+        ∙ ap (λ (n : ℕ). opened (elim n [ zero ↦ listingText (listingOf T) | suc n ↦ [] ])) (sym (compile-number L ∙ e))
+    go (suc n) e =
+        ap (λ (n : ℕ). opened (listingText (instructions (take (wordsEach * n) (compileSlice L))))) (compile-refused L (λ z. omega (arith, compile-number L, e, z)) .1)
+        ∙ ap (λ (n : ℕ). opened (elim n [ zero ↦ listingText (listingOf T) | suc n ↦ [] ])) (sym (compile-number L ∙ e))
 
 -- what is printed of what is answered is what the definition says, whatever was read
 pub read-text : (r : Read Tables) → textOfAnswer (answerShown r blank) ≡ printed r
 unfolding answerShown textOfAnswer
 read-text bad = refl
-read-text tooMany = refl
+read-text tooMany = append-nil (answerLine (placeless shapeRefused))
 read-text (got T rest) = compiled-text T rest
 
 -- what is printed of the answer to a text is what the shipped program prints for it

@@ -9,7 +9,7 @@ use Rattle.cells.specs.Limits.{wordsEach}
 use Rattle.code.specs.Op.{Op, instructions}
 use Rattle.text.specs.Listing.{linesFrom}
 use Rattle.text.specs.Page.{linesOf, pageEnd}
-use Rattle.text.specs.Shipped.{badInput, verdictLine}
+use Rattle.text.specs.Shipped.{badInput, answerLine}
 use Rattle.answering.specs.Answer.{Answered}
 use Rattle.answering.specs.declared.answer.Shown.{Shown}
 use Rattle.answering.specs.declared.pages.Sheet.{Sheet}
@@ -24,7 +24,7 @@ emptyBuffer = replicate bufferSize 0
 
 -- the first line of an answer
 unfoldable pub openingOf : Shown → List ℕ
-openingOf s = cond (s .bad) badInput (verdictLine (s .number))
+openingOf s = cond (s .bad) badInput (answerLine (s .answer))
 
 -- the code whose lines follow the first line of an answer; behind `bad input` there is none
 unfoldable pub codeOf : Answered → List ℕ

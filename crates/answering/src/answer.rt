@@ -1,4 +1,4 @@
-// What is to be printed of a text that was read: `bad input`, or the number, and with 0 the listing.
+// What is to be printed of a text that was read: `bad input`, or the answer of compiling, and with 0 the listing.
 ghost use mathlib.Core.Path.{_≡_};
 ghost use Rattle.intake.specs.Line.{fed};
 ghost use Rattle.intake.specs.Heard.{tablesRead, heard};
@@ -11,11 +11,12 @@ use cells::refusals;
 use code::Compiled;
 use intake::state::Intake;
 use intake::tables;
+use theory::Answer;
 
-// What is to be printed: the text is bad, or the number of compiling and the listing's length, which are 0 of a bad text.
+// What is to be printed: the text is bad, or the answer of compiling and the listing's length, which are all 0 of a bad text.
 pub struct Shown {
     pub bad: bool,
-    pub number: usize,
+    pub answer: Answer,
     pub length: usize,
 }
 
@@ -36,22 +37,25 @@ pub fn answer(i: Intake, room: &[i32], code: &mut [u32]) -> Shown
 {
     if i.complete() {
         let c = compiled(i, room, code);
+        let answer = c.answer;
         return Shown {
             bad: false,
-            number: c.number,
+            answer,
             length: c.length,
         };
     }
     if i.too_many {
+        let answer = answers::refused(refusals::SHAPE);
         return Shown {
             bad: false,
-            number: refusals::SHAPE,
+            answer,
             length: 0,
         };
     }
+    let answer = answers::accepted();
     Shown {
         bad: true,
-        number: 0,
+        answer,
         length: 0,
     }
 }

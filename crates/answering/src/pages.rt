@@ -19,14 +19,14 @@ pub struct Sheet {
     pub next: usize,
 }
 
-// The first line of an answer: `bad input`, or the number.
+// The first line of an answer: `bad input`, or the number with its place.
 fn opening(shown: Shown) -> Line
     ensures { λ r. ⌜ Holds r (openingOf shown) ⌝ }
 {
     if shown.bad {
         return listing::bad_line();
     }
-    listing::verdict_line(shown.number)
+    listing::answer_line(shown.answer)
 }
 
 // The words of the code whose lines follow the first line of an answer.

@@ -2,6 +2,7 @@
 use crate::stream::Reader;
 use cells::table;
 use libc::STDOUT_FILENO;
+use theory::Answer;
 
 // What became of a case: whether its kind is known, and whether its line could be written.
 pub struct Outcome {
@@ -11,7 +12,7 @@ pub struct Outcome {
 }
 
 // Prints a number's digits.
-pub fn digits(n: usize) -> bool {
+fn digits(n: usize) -> bool {
     io::print_decimal(STDOUT_FILENO, n as u64)
 }
 
@@ -40,9 +41,20 @@ pub fn line_end() -> bool {
     io::write_all(STDOUT_FILENO, b"\n")
 }
 
-// Prints a number on a line.
-pub fn number(n: usize) -> bool {
-    if !digits(n) {
+// Prints an answer: its number, then its place, two numbers each after a space.
+pub fn answer(x: Answer) -> bool {
+    if !digits(x.number) {
+        return false;
+    }
+    if !after_space(x.outer) {
+        return false;
+    }
+    after_space(x.inner)
+}
+
+// Prints an answer on a line of its own.
+pub fn answer_line(x: Answer) -> bool {
+    if !answer(x) {
         return false;
     }
     line_end()

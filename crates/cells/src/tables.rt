@@ -31,6 +31,15 @@ pub const UPDATES: usize = 8;
 
 pub const SWITCHES: usize = 9;
 
+// The numbers of what is lent beside the ten tables, as a place names it: windows, schedule; the start mode; the supplier asked about.
+pub const WINDOWS: usize = 10;
+
+pub const SCHEDULE: usize = 11;
+
+pub const START: usize = 12;
+
+pub const SUPPLIER: usize = 13;
+
 // How many numbers a row of each table has, by the place of the table.
 pub const WIDTHS: [usize; Program::TABLES] = [
     port::WIDTH,

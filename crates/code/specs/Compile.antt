@@ -5,7 +5,8 @@ use mathlib.Core.List.{List, [], _∷_, _++_, map}
 use mathlib.Core.Option.{Option, none, some}
 use lib.Dec.{ltb}
 use lib.ListN.{length, take, drop, getD}
-use Rattle.theory.specs.Verdict.{acceptedNumber, Refusal, within, verdict, Rule, holding}
+use Rattle.theory.specs.Rows.{placeless}
+use Rattle.theory.specs.Verdict.{acceptedNumber, Refusal, unplaced, within, verdict, firstRefusal, Rule, unplacedRule, holding}
 use Rattle.cells.specs.Limits.{maxCode, wordsEach}
 use Rattle.cells.specs.Refusals.{shapeRefused, codeRefused}
 use Rattle.program.specs.Tables.{Tables}
@@ -25,7 +26,7 @@ codeLong T = ltb maxCode (length (listingOf T))
 
 -- the refusal of tables whose E code exceeds the limit
 abbrev pub longRefusal : Refusal Tables
-longRefusal = record { number = codeRefused; applies = codeLong }
+longRefusal = unplaced codeRefused codeLong
 
 -- the E code of these tables is within the limit
 abbrev pub CodeFits : Tables → Type 0
@@ -33,17 +34,17 @@ CodeFits T = length (listingOf T) ≤ maxCode
 
 -- number 11 outside compiling, as a rule: the E code is within the limit
 abbrev pub longRule : Rule Tables
-longRule = record { number = codeRefused; holds = CodeFits }
+longRule = unplacedRule codeRefused CodeFits
 
 -- the refusals of a call that is lent the tables and more: its own 1, then 2 to 11 of the tables, then its own numbers
 abbrev pub callRefusals : {A : Type 0} → (A → Tables) → (A → Bool) → List (Refusal A) → List (Refusal A)
 callRefusals tables shape own =
-    record { number = shapeRefused; applies = shape } ∷ (map (within tables) (tableRefusals ++ (longRefusal ∷ [])) ++ own)
+    unplaced shapeRefused shape ∷ (map (within tables) (tableRefusals ++ (longRefusal ∷ [])) ++ own)
 
 -- the rules of a call that is lent the tables and more: its own 1, then 2 to 11 of the tables, then its own rules
 abbrev pub callRules : {A : Type 0} → (A → Tables) → (A → Type 0) → List (Rule A) → List (Rule A)
 callRules tables shape own =
-    record { number = shapeRefused; holds = shape } ∷ (map (holding tables) (tableRules ++ (longRule ∷ [])) ++ own)
+    unplacedRule shapeRefused shape ∷ (map (holding tables) (tableRules ++ (longRule ∷ [])) ++ own)
 
 -- what compiling is lent: the tables, and a slice for the code
 pub record Compiling : Type 0 where
@@ -56,7 +57,7 @@ sliceShort L = ltb (length (L .slice)) (wordsEach * length (listingOf (L .tables
 
 -- number 11 of compiling: the E code exceeds the limit, or the slice that was lent
 abbrev pub sliceRefusals : List (Refusal Compiling)
-sliceRefusals = record { number = codeRefused; applies = λ L. codeLong (L .tables) || sliceShort L } ∷ []
+sliceRefusals = unplaced codeRefused (λ L. codeLong (L .tables) || sliceShort L) ∷ []
 
 -- the refusals of compiling: 1 to 10 of the tables, then 11
 abbrev pub compileRefusals : List (Refusal Compiling)
@@ -69,21 +70,17 @@ compileVerdict L = verdict compileRefusals L
 -- number 11 of compiling, as a rule: the E code is within the limit and fits the slice
 abbrev pub sliceRules : List (Rule Compiling)
 sliceRules =
-    record {
-      number = codeRefused;
-      holds = λ L. CodeFits (L .tables) × (wordsEach * length (listingOf (L .tables)) ≤ length (L .slice));
-    }
-    ∷ []
+    unplacedRule codeRefused (λ L. CodeFits (L .tables) × (wordsEach * length (listingOf (L .tables)) ≤ length (L .slice))) ∷ []
 
 -- the rules of compiling: those of the tables, then 11
 abbrev pub compileRules : List (Rule Compiling)
 compileRules = map (holding (λ (L : Compiling). L .tables)) programRules ++ sliceRules
 
--- what compiling answers: accepted with the length of the listing, or a refusal with length 0
+-- what compiling answers: accepted with the length of the listing, or the first refusal with its place and length 0
 abbrev pub compileAnswer : Compiling → Compiled
 compileAnswer L = elim (compileVerdict L) [
-  | zero ↦ record { number = acceptedNumber; length = length (listingOf (L .tables)) }
-  | suc n ↦ record { number = suc n; length = 0 }
+  | zero ↦ record { answer = placeless acceptedNumber; length = length (listingOf (L .tables)) }
+  | suc n ↦ record { answer = firstRefusal compileRefusals L; length = 0 }
 ]
 
 -- the slice as compiling leaves it: the words of the listing and then the rest as it was, or all as it was

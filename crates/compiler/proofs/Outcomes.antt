@@ -1,23 +1,26 @@
--- What compiling answers, by the number that the verdict on the tables gives: a refusal of that number, or what number 11 leaves.
+-- What compiling answers, by the answer on the program: its refusal with its place, or what number 11 leaves.
 use Prim.Native.Nat.{ℕ, zero, suc, _*_, _≤_}
 use mathlib.Core.Path.{_≡_, refl, sym, ap, ap₂, _∙_}
-use mathlib.Core.Bool.{Bool, true, false, _||_}
+use mathlib.Core.Bool.{Bool, true, false, _||_, cond}
 use mathlib.Core.List.{List, _∷_, map}
 use native.Mathlib.Omega.{arith}
 use lib.Dec.{ltb}
 use lib.ListN.{length, getD}
 use borrow.Author.Tests.{ltb-false}
-use Rattle.theory.specs.Verdict.{acceptedNumber, orElse, within, verdict, after}
+use Rattle.theory.specs.Rows.{placeless}
+use Rattle.theory.specs.Verdict.{acceptedNumber, orElse, within, firstRefusal, orNext}
+use Rattle.theory.specs.declared.Answer.{Answer}
 use Rattle.theory.proofs.Bools.{neither}
-use Rattle.theory.proofs.Verdict.{verdict-append, verdict-within}
+use Rattle.theory.proofs.Verdict.{next-given, next-none, answer-number, answer-append, answer-within}
 use Rattle.cells.specs.Limits.{maxCode, wordsEach}
 use Rattle.cells.specs.Refusals.{codeRefused}
 use Rattle.program.specs.Tables.{Tables, startMode}
 use Rattle.program.specs.Program.{programOf}
-use Rattle.rules.specs.Verdict.{shapeRefusal, tableRefusals, programVerdict}
+use Rattle.rules.specs.Verdict.{shapeRefusal, tableRefusals, programVerdict, programAnswer}
 use Rattle.rules.proofs.Accepted.{accepted-fields}
+use Rattle.rules.proofs.Verdict.{program-number}
 use Rattle.code.specs.Listing.{blockAddress}
-use Rattle.code.specs.Compile.{Compiling, listingOf, codeLong, sliceShort, sliceRefusals, compileVerdict}
+use Rattle.code.specs.Compile.{Compiling, listingOf, codeLong, sliceShort, sliceRefusals, compileRefusals, compileVerdict}
 use Rattle.code.specs.declared.Compiled.{Compiled}
 use Rattle.layout.specs.declared.addresses.Layout.{Layout}
 use Rattle.layout.specs.Layout.{LaidOut}
@@ -29,12 +32,12 @@ use Rattle.compiler.proofs.Listed.{all-same}
 
 module _ (L : Compiling) where
   -- where number 11 applies, the outcome is its refusal
-  pub listed-refused : (codeLong (L .tables) || sliceShort L) ≡ true → refused L codeRefused ≡ listed L
-  listed-refused e = ap (λ (b : Bool). elim b as (λ b. Compilation) [ true ↦ refused L codeRefused | false ↦ accepted L ]) (sym e)
+  pub listed-refused : (codeLong (L .tables) || sliceShort L) ≡ true → refused L (placeless codeRefused) ≡ listed L
+  listed-refused e = ap (λ (b : Bool). elim b as (λ b. Compilation) [ true ↦ refused L (placeless codeRefused) | false ↦ accepted L ]) (sym e)
 
   -- where number 11 does not apply, the outcome is the listing
   pub listed-accepted : (codeLong (L .tables) || sliceShort L) ≡ false → accepted L ≡ listed L
-  listed-accepted e = ap (λ (b : Bool). elim b as (λ b. Compilation) [ true ↦ refused L codeRefused | false ↦ accepted L ]) (sym e)
+  listed-accepted e = ap (λ (b : Bool). elim b as (λ b. Compilation) [ true ↦ refused L (placeless codeRefused) | false ↦ accepted L ]) (sym e)
 
   -- number 11 is told from the listing's length
   pub long-told : (n : ℕ) → n ≡ length (listingOf (L .tables))
@@ -42,31 +45,50 @@ module _ (L : Compiling) where
   unfolding codeLong sliceShort
   long-told n e = ap (λ (k : ℕ). ltb maxCode k || ltb (length (L .slice)) (wordsEach * k)) e
 
-  -- the verdict of compiling is that on the program, then number 11
-  verdict-first : compileVerdict L ≡ after (programVerdict (L .tables)) (verdict sliceRefusals L)
-  unfolding compileVerdict programVerdict
-  verdict-first =
-      verdict-append (map (within (λ (L : Compiling). L .tables)) (shapeRefusal ∷ tableRefusals)) sliceRefusals L (omega arith)
-      ∙ ap (λ (n : ℕ). after n (verdict sliceRefusals L)) (verdict-within (λ (L : Compiling). L .tables) (shapeRefusal ∷ tableRefusals) L)
+  -- the answer of compiling is that on the program, then that of number 11
+  refusal-first : firstRefusal compileRefusals L ≡ orNext (programAnswer (L .tables)) (firstRefusal sliceRefusals L)
+  unfolding programAnswer
+  refusal-first =
+      answer-append (map (within (λ (L : Compiling). L .tables)) (shapeRefusal ∷ tableRefusals)) sliceRefusals L (omega arith)
+      ∙ ap (λ (x : Answer). orNext x (firstRefusal sliceRefusals L)) (answer-within (λ (L : Compiling). L .tables) (shapeRefusal ∷ tableRefusals) L)
 
-  -- the outcome of compiling with this number
-  abbrev by : ℕ → Compilation
-  by v =
-      outcome (elim v as (λ v. Compiled) [ zero ↦ accepted L .answer | suc n ↦ refused L (suc n) .answer ])
+  -- the verdict of compiling is the number of its first refusal
+  refusal-number : {x : Answer} → firstRefusal compileRefusals L ≡ x → compileVerdict L ≡ x .number
+  unfolding compileVerdict
+  refusal-number e = sym (answer-number compileRefusals L) ∙ ap (λ (x : Answer). x .number) e
+
+  -- the outcome of compiling with this number and this first refusal
+  abbrev by : ℕ → Answer → Compilation
+  by v x =
+      outcome (elim v as (λ v. Compiled) [ zero ↦ accepted L .answer | suc n ↦ refused L x .answer ])
       (elim v as (λ v. List ℕ) [ zero ↦ accepted L .slice | suc n ↦ L .slice ])
 
   -- where a number up to 10 applies, the outcome is its refusal
-  pub compiled-refused : (n : ℕ) → programVerdict (L .tables) ≡ n → (n ≡ acceptedNumber → ⊥) → refused L n ≡ compiled L
-  compiled-refused zero e d = absurd (d refl)
-  compiled-refused (suc n) e d = ap by (sym (verdict-first ∙ ap (λ (k : ℕ). after k (verdict sliceRefusals L)) e))
+  pub compiled-refused : (x : Answer) → x ≡ programAnswer (L .tables) → (x .number ≡ acceptedNumber → ⊥) → refused L x ≡ compiled L
+  compiled-refused x e d = go (x .number) refl ∙ ap₂ by (sym (refusal-number first)) (sym first)
+    where
+      first : firstRefusal compileRefusals L ≡ x
+      first =
+          refusal-first
+          ∙ ap (λ (y : Answer). orNext y (firstRefusal sliceRefusals L)) (sym e)
+          ∙ next-given x (firstRefusal sliceRefusals L) d
+
+      go : (n : ℕ) → x .number ≡ n → refused L x ≡ by n x
+      go zero z = absurd (d z)
+      go (suc n) z = refl
 
   -- where no number up to 10 applies, the outcome is what number 11 leaves
   pub compiled-listed : programVerdict (L .tables) ≡ acceptedNumber → listed L ≡ compiled L
   compiled-listed e =
-      go (codeLong (L .tables) || sliceShort L) ∙ ap by (sym (verdict-first ∙ ap (λ (k : ℕ). after k (verdict sliceRefusals L)) e))
+      go (codeLong (L .tables) || sliceShort L)
+      ∙ ap₂ by (sym (refusal-number first ∙ answer-number sliceRefusals L)) (sym first)
     where
+      first : firstRefusal compileRefusals L ≡ firstRefusal sliceRefusals L
+      first = refusal-first ∙ next-none (programAnswer (L .tables)) (firstRefusal sliceRefusals L) (program-number (L .tables) ∙ e)
+
       go : (b : Bool)
-          → elim b as (λ b. Compilation) [ true ↦ refused L codeRefused | false ↦ accepted L ] ≡ by (orElse b codeRefused acceptedNumber)
+          → elim b as (λ b. Compilation) [ true ↦ refused L (placeless codeRefused) | false ↦ accepted L ]
+          ≡ by (orElse b codeRefused acceptedNumber) (cond b (placeless codeRefused) (placeless acceptedNumber))
       go true = refl
       go false = refl
 
@@ -74,9 +96,11 @@ module _ (L : Compiling) where
 pub all-written : (T : Tables) (a : programVerdict T ≡ acceptedNumber) (layout : Layout) → LaidOut T layout → {start : ℕ} → start ≡ startMode T → (slice exit : List ℕ) (next : ℕ)
     → written exit next ≡ writes (allIn T (layout .entries) (getD (layout .starts) start 0)) (written slice 0)
     → (ltb maxCode (layout .length) || ltb (length slice) (wordsEach * layout .length)) ≡ false
-    → outcome (record { number = acceptedNumber; length = layout .length }) exit ≡ listed (compiling T slice)
-all-written T a layout laid {start} q slice exit next w b =
-    ap₂ (λ (n : ℕ) (s : List ℕ). outcome (record { number = acceptedNumber; length = n }) s) (laid .length)
+    → {x : Answer} → x ≡ placeless acceptedNumber
+    → outcome (record { answer = x; length = layout .length }) exit ≡ listed (compiling T slice)
+all-written T a layout laid {start} q slice exit next w b e =
+    ap (λ (x : Answer). outcome (record { answer = x; length = layout .length }) exit) e
+    ∙ ap₂ (λ (n : ℕ) (s : List ℕ). outcome (record { answer = placeless acceptedNumber; length = n }) s) (laid .length)
     (ap (λ (v : Written). v .code) (w ∙ ap (λ (os : List Words). writes os (written slice 0)) same ∙ writes-emit (listingOf T) slice fits))
     ∙ listed-accepted (compiling T slice) (sym (long-told (compiling T slice) (layout .length) (laid .length)) ∙ b)
   where

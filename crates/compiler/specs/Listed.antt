@@ -3,7 +3,9 @@ use Prim.Native.Nat.{ℕ, _*_}
 use mathlib.Core.Bool.{true, false, _||_}
 use mathlib.Core.List.{List, _++_}
 use lib.ListN.{length, drop}
+use Rattle.theory.specs.Rows.{placeless}
 use Rattle.theory.specs.Verdict.{acceptedNumber}
+use Rattle.theory.specs.declared.Answer.{Answer}
 use Rattle.cells.specs.Limits.{wordsEach}
 use Rattle.cells.specs.Refusals.{codeRefused}
 use Rattle.program.specs.Tables.{Tables}
@@ -28,16 +30,16 @@ outcome answer slice = record { answer = answer; slice = slice }
 abbrev pub compiled : Compiling → Compilation
 compiled L = outcome (compileAnswer L) (compileSlice L)
 
--- the outcome of a refusal: no length, and the slice as it was
-abbrev pub refused : Compiling → ℕ → Compilation
-refused L n = outcome (record { number = n; length = 0 }) (L .slice)
+-- the outcome of a refusal with this answer: no length, and the slice as it was
+abbrev pub refused : Compiling → Answer → Compilation
+refused L x = outcome (record { answer = x; length = 0 }) (L .slice)
 
 -- the outcome of an accepted program: its listing is written, the rest of the slice stays as it was
 abbrev pub accepted : Compiling → Compilation
 accepted L =
-    outcome (record { number = acceptedNumber; length = length (listingOf (L .tables)) })
+    outcome (record { answer = placeless acceptedNumber; length = length (listingOf (L .tables)) })
     (emit (listingOf (L .tables)) ++ drop (wordsEach * length (listingOf (L .tables))) (L .slice))
 
 -- the outcome of a program that numbers 1 to 10 pass: number 11, or the listing
 abbrev pub listed : Compiling → Compilation
-listed L = elim (codeLong (L .tables) || sliceShort L) [ true ↦ refused L codeRefused | false ↦ accepted L ]
+listed L = elim (codeLong (L .tables) || sliceShort L) [ true ↦ refused L (placeless codeRefused) | false ↦ accepted L ]

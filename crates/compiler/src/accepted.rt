@@ -28,7 +28,7 @@ pub fn listed(tables: &[&[i32]; Program::TABLES], first: Mode, code: &mut [u32])
     let n = laid.length;
     if (Program::CODE < n) | (code.len() < Program::WORDS * n) {
         return Compiled {
-            number: refusals::CODE,
+            answer: answers::refused(refusals::CODE),
             length: 0,
         };
     }
@@ -36,7 +36,7 @@ pub fn listed(tables: &[&[i32]; Program::TABLES], first: Mode, code: &mut [u32])
     let entries = laid.entries;
     listing::all(code, tables, &starts, &entries, sensors, first);
     Compiled {
-        number: refusals::ACCEPTED,
+        answer: answers::accepted(),
         length: n,
     }
 }

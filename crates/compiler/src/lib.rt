@@ -1,4 +1,4 @@
-// Compiling: the verdict 1 to 11 on a program, and its E code, written into a lent slice.
+// Compiling: the answer 1 to 11 on a program, and its E code, written into a lent slice.
 ghost use mathlib.Core.Path.{_≡_};
 ghost use Rattle.program.specs.Tables.{tablesIn};
 ghost use Rattle.code.specs.Compile.{compileAnswer, compileSlice};
@@ -19,12 +19,9 @@ pub fn compile(tables: &[&[i32]; Program::TABLES], program: Program, code: &mut 
     ensures slice { λ r. ⌜ now (code .exit) ≡ compileSlice (compiling (tablesIn (now (tables .entry)) (program .start))
         (now (code .entry))) ⌝ }
 {
-    let number = verdict::program_verdict(tables, program);
-    if refusals::ACCEPTED < number {
-        return Compiled {
-            number: number,
-            length: 0,
-        };
+    let answer = verdict::program_verdict(tables, program);
+    if refusals::ACCEPTED < answer.number {
+        return Compiled { answer, length: 0 };
     }
     accepted::listed(tables, Mode::of(table::index(program.start)), code)
 }

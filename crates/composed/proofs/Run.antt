@@ -5,6 +5,7 @@ use mathlib.Core.Path.{_≡_, sym, ap, subst, _∙_}
 use mathlib.Core.List.{List}
 use mathlib.Core.Logic.{inr}
 use lib.IntN.{ℤ}
+use Rattle.theory.specs.Rows.{placeless}
 use Rattle.theory.specs.Verdict.{acceptedNumber}
 use Rattle.program.specs.Tables.{Tables}
 use Rattle.program.specs.Program.{Program, programOf}
@@ -13,10 +14,10 @@ use Rattle.code.specs.Compile.{listingOf}
 use Rattle.giotto.specs.Instant.{Configuration, Function}
 use Rattle.giotto.specs.Execution.{pass}
 use Rattle.machine.specs.declared.State.{State}
-use Rattle.machine.specs.declared.Advanced.{Advanced}
-use Rattle.machine.specs.Instant.{ok}
+use Rattle.machine.specs.declared.Handed.{Handed}
+use Rattle.machine.specs.Instant.{Outcome, ok}
 use Rattle.machine.specs.Schedules.{tickAll}
-use Rattle.machine.specs.Advance.{Lent, answer, advanceAnswer}
+use Rattle.machine.specs.Advance.{Lent, answer, handed, advanceAnswer}
 use Rattle.machine.proofs.Ready.{goes}
 use Rattle.machine.proofs.Answered.{advance-steps}
 use Rattle.composed.specs.Sound.{Sound}
@@ -33,11 +34,11 @@ module _ (T : Tables) (W S : List ℤ) (F : Function) (n : ℕ) (C : Configurati
   module _ (h : Sound T W S) (x : Suited T (emit (listingOf T)) S F n C s X) where
     -- the tick is accepted, and the relation holds after it
     pub related-tick : Related T W S F n C s
-        → (advanceAnswer (byCompiled T S X s) .number ≡ acceptedNumber)
+        → (advanceAnswer (byCompiled T S X s) .answer .number ≡ acceptedNumber)
         × Related T W S F (suc n) (pass P F n (X .readings) C) (advanceAnswer (byCompiled T S X s) .state)
     related-tick r = (
-      ap (λ (a : Advanced). a .number) answered,
-      subst (λ (a : Advanced). Related T W S F (suc n) (pass P F n (X .readings) C) (a .state)) (sym answered) (inr (b .unit, next .2)),
+      ap (λ (a : Handed). a .answer .number) answered,
+      subst (λ (a : Handed). Related T W S F (suc n) (pass P F n (X .readings) C) (a .state)) (sym answered) (inr (b .unit, next .2)),
     )
       where
         b : Readied T W S F n C s (X .readings) (X .times)
@@ -46,7 +47,7 @@ module _ (T : Tables) (W S : List ℤ) (F : Function) (n : ℕ) (C : Configurati
         next : (v : State) × (tickAll P S (X .results) (b .state) ≡ ok v) × Going T W S F (b .unit) (suc n) (pass P F n (X .readings) C) v
         next = tick-related T W S F h (b .unit) n (pass P F n (X .readings) C) (b .state) (X .results) (b .keeps) (b .more) (λ t p. x .results (b .state) t p (b .runs))
 
-        answered : advanceAnswer (byCompiled T S X s) ≡ record { number = acceptedNumber; state = next .0 }
+        answered : advanceAnswer (byCompiled T S X s) ≡ record { answer = placeless acceptedNumber; state = next .0 }
         answered =
             sym (advance-steps (byCompiled T S X s) (related-verdict T W S F h n C s X r (x .readings-length) (x .results-length) (x .times-length)))
-            ∙ ap (answer s) (ap (goes P (instructions (emit (listingOf T))) S X s) (b .runs) ∙ next .1)
+            ∙ ap (λ (o : Outcome). handed (answer s o)) (ap (goes P (instructions (emit (listingOf T))) S X s) (b .runs) ∙ next .1)

@@ -15,7 +15,7 @@ use Rattle.giotto.specs.Instant.{Configuration, Function}
 use Rattle.giotto.specs.Execution.{pass, portsInTick}
 use Rattle.machine.specs.Advance.{Lent, advanceAnswer}
 use Rattle.machine.specs.declared.State.{State}
-use Rattle.machine.specs.declared.Advanced.{Advanced}
+use Rattle.machine.specs.declared.Handed.{Handed}
 use Rattle.machine.proofs.Answered.{fresh-accepted}
 use Rattle.machine.proofs.Fresh.{fresh-number}
 use Rattle.composed.specs.Sound.{Sound}
@@ -42,12 +42,12 @@ module _ (Y : System) (a : Accepted Y) (F : Function) (lents : ℕ → Lent) whe
   -- a suited tick is accepted and keeps the relation
   one-tick : (n : ℕ) (C : Configuration) (s : State) (X : Lent) → Suited (Y .tables) (code Y) (joined Y) F n C s X
       → Related (Y .tables) (Y .windows) (joined Y) F n C s
-      → (advanced Y X s .number ≡ acceptedNumber)
+      → (advanced Y X s .answer .number ≡ acceptedNumber)
       × Related (Y .tables) (Y .windows) (joined Y) F (suc n) (pass (programOf (Y .tables)) F n (X .readings) C) (advanced Y X s .state)
   one-tick n C s X x r =
       subst (λ (ws : List ℕ).
       let b = advanceAnswer (record { tables = Y .tables; code = ws; schedule = joined Y; state = s; lent = X }) in
-      (b .number ≡ acceptedNumber)
+      (b .answer .number ≡ acceptedNumber)
       × Related (Y .tables) (Y .windows) (joined Y) F (suc n) (pass (programOf (Y .tables)) F n (X .readings) C) (b .state))
       (sym is-compiled)
       (relation-kept (Y .tables) (Y .windows) (joined Y) sound F n C s X (subst (λ (ws : List ℕ). Suited (Y .tables) ws (joined Y) F n C s X) is-compiled x) r)
@@ -56,7 +56,7 @@ module _ (Y : System) (a : Accepted Y) (F : Function) (lents : ℕ → Lent) whe
   related : (n : ℕ) → ((k : ℕ) → k < n → SuitedAt Y F lents k)
       → Related (Y .tables) (Y .windows) (joined Y) F n (configurationAt Y F lents n) (stateAt Y lents n)
   related zero f =
-      inl (record { no-tick = refl; initially = refl; is-fresh = ap (λ (b : Advanced). b .state) (sym (fresh-accepted (Y .tables) (sound .accepted))) })
+      inl (record { no-tick = refl; initially = refl; is-fresh = ap (λ (b : Handed). b .state) (sym (fresh-accepted (Y .tables) (sound .accepted))) })
   related (suc n) f =
       one-tick n (configurationAt Y F lents n) (stateAt Y lents n) (lents n) (f n (omega arith)) (related n (λ k l. f k (omega arith))) .1
 

@@ -2,7 +2,7 @@
 -- The premises are the statements'.
 use mathlib.Core.Path.{ap}
 use mathlib.Core.Logic.{⊎-elim}
-use Rattle.suppliers.specs.declared.Answer.{Answer}
+use Rattle.theory.specs.declared.Answer.{Answer}
 use Rattle.suppliers.proofs.Idle as suppliers
 use Rattle.demands.specs.Idle.{IdleAccepted, askedOf, AcceptedOf}
 

@@ -7,7 +7,7 @@ use mathlib.Core.Logic.{inl}
 use mathlib.Core.List.{List, [], _∷_, map}
 use native.Mathlib.Omega.{arith}
 use lib.IntN.{pos}
-use Rattle.theory.specs.Verdict.{acceptedNumber, Refusal, within}
+use Rattle.theory.specs.Verdict.{acceptedNumber, Refusal, unplaced, within}
 use Rattle.theory.proofs.Verdict.{verdict-clear, verdict-both}
 use Rattle.cells.specs.Limits.{suppliers, maxPart}
 use Rattle.cells.specs.Refusals.{shapeRefused, scheduleRefused}
@@ -22,7 +22,7 @@ use Rattle.runs.proofs.Exactly.{worst-suited}
 use Rattle.suppliers.specs.Windows.{Windowed, windowsShapeBad, windowRowsRefusals, windowsVerdict, Windows}
 use Rattle.suppliers.specs.Schedule.{partBad, Part}
 use Rattle.suppliers.specs.Supplier.{Asked, supplierOf, courseOf, judged, partVerdict, supplierVerdict, windowedOf}
-use Rattle.suppliers.specs.declared.Answer.{Answer}
+use Rattle.theory.specs.declared.Answer.{Answer}
 use Rattle.suppliers.proofs.Windows.{windows-bar}
 use Rattle.suppliers.proofs.Schedule.{part-bars}
 use Rattle.suppliers.proofs.Accepted.{windows-accepted, part-after, part-some-time}
@@ -38,7 +38,7 @@ windows-pass : (L : Windowed) → windowsVerdict L ≡ acceptedNumber → CodeFi
 unfolding windowsVerdict
 windows-pass L e =
     let own : List (Refusal Windowed) = within (λ (L : Windowed). L .tables) longRefusal ∷ windowRowsRefusals in
-    let first : List (Refusal Windowed) = record { number = shapeRefused; applies = windowsShapeBad } ∷ map (within (λ (L : Windowed). L .tables)) tableRefusals in
+    let first : List (Refusal Windowed) = unplaced shapeRefused windowsShapeBad ∷ map (within (λ (L : Windowed). L .tables)) tableRefusals in
     let c = verdict-clear own L (omega arith) (verdict-both first own L (omega arith) e .1) in
     (long-bars (L .tables) .ok (c .0), windows-bar L .ok (c .1 .0))
 
@@ -51,8 +51,8 @@ part-fits : (L : Asked) → windowsVerdict (windowedOf L) ≡ acceptedNumber →
     → WholeRows scheduleWidth maxPart (L .part) × Part (L .tables) (L .part) (supplierOf L)
 part-fits L w e =
     let own : List (Refusal Asked) =
-    record { number = shapeRefused; applies = λ L. badSlice scheduleWidth maxPart (L .part) }
-    ∷ record { number = scheduleRefused; applies = λ L. partBad (L .tables) (L .part) (supplierOf L) }
+    unplaced shapeRefused (λ L. badSlice scheduleWidth maxPart (L .part))
+    ∷ unplaced scheduleRefused (λ L. partBad (L .tables) (L .part) (supplierOf L))
     ∷ [] in
     let c = verdict-clear own L (omega arith) (sym (part-after L w) ∙ e) in
     (slice-bars scheduleWidth maxPart (L .part) .ok (c .0), part-bars (L .tables) (L .part) (supplierOf L) .ok (c .1 .0))

@@ -2,15 +2,17 @@
 -- its windows and terminations; the place is that of the worst-case run; a shorter run is dominated; other suppliers do not matter.
 use Prim.Native.Nat.{ℕ, zero, suc, _≤_, _<_}
 use mathlib.Core.Path.{_≡_, refl, sym, ap, subst, _∙_, fun-ext}
-use mathlib.Core.Bool.{true}
+use mathlib.Core.Bool.{true, cond}
 use mathlib.Core.List.{List}
-use mathlib.Core.Logic.{_⊎_, inl, inr, _↔_, Iff·trans}
+use mathlib.Core.Logic.{_⊎_, inl, inr, ⊎-elim, _↔_, Iff·trans}
 use native.Mathlib.Omega.{arith}
 use lib.Dec.{eqb}
 use lib.IntN.{ℤ}
 use lib.ListN.{length}
 use borrow.Author.Tests.{eqb-true, eq-eqb}
-use Rattle.theory.specs.Verdict.{acceptedNumber, orElse, Keep}
+use Rattle.theory.specs.Rows.{placeless}
+use Rattle.theory.specs.Verdict.{acceptedNumber, orElse, rowsAnswer, Keep}
+use Rattle.theory.specs.declared.Answer.{Answer}
 use Rattle.theory.proofs.Bools.{iff, is-true}
 use Rattle.theory.proofs.Members.{Has, has-those}
 use Rattle.cells.specs.Cell.{indexOf}
@@ -30,15 +32,14 @@ use Rattle.runs.proofs.First.{judge-exactly}
 use Rattle.runs.proofs.Exactly.{no-break-exactly}
 use Rattle.suppliers.specs.Windows.{windowsVerdict}
 use Rattle.suppliers.specs.Schedule.{lastStatic}
-use Rattle.suppliers.specs.Supplier.{Asked, supplierOf, courseOf, answerOf, answerFrom, judged, partVerdict, partRules, supplierVerdict}
-use Rattle.suppliers.specs.declared.Answer.{Answer}
+use Rattle.suppliers.specs.Supplier.{Asked, supplierOf, courseOf, answerOf, answerFrom, judged, partVerdict, partAnswer, partRules, supplierVerdict}
 use Rattle.suppliers.proofs.Modes.{AllGood, BreaksFirst, answer-good, answer-break}
-use Rattle.suppliers.proofs.Accepted.{part-some-time, part-after}
+use Rattle.suppliers.proofs.Accepted.{part-some-time, part-after, part-answer-after}
 use Rattle.suppliers.proofs.Judged.{judged-modes}
 use Rattle.suppliers.proofs.Answers.{judged-accepted, refused-exactly, judged-exactly, only-these}
-use Rattle.suppliers.proofs.Tasks.{withTasks, part-tasks, break-tasks}
+use Rattle.suppliers.proofs.Tasks.{withTasks, tests-tasks, part-tasks, break-tasks}
 use Rattle.demands.specs.Supplier.{BreaksAt, SupplierExact, shorter, longer, Domination, Window, ownWindows, Independent}
-use Rattle.demands.proofs.Calls.{part-first, part-kept}
+use Rattle.demands.proofs.Calls.{part-first-at, part-kept}
 
 module _ (L : Asked) (a : partVerdict L ≡ acceptedNumber) where
   -- no run breaks exactly where every fair run of every mode is good
@@ -93,7 +94,7 @@ break-exactly L a m b d =
 -- what a supplier's verdict answers
 pub supplier-exact : (L : Asked) → SupplierExact L
 supplier-exact L = record {
-  refused = λ n l k. Iff·trans (refused-exactly L n l k) (part-first L n);
+  refused = λ x l k. Iff·trans (refused-exactly L x l k) (part-first-at L x);
   accepted = (
     λ e. let (z, j) = judged-exactly L (answerOf 0 none) (inl refl) .0 e in (part-kept L .0 z, good-exactly L z .0 (ap (λ (a : Answer). a .number) j)),
     λ w.
@@ -102,7 +103,7 @@ supplier-exact L = record {
   );
   outside-at = λ m t. place m (outside t) (inr (omega arith)) (λ q. absurd (let z : _≡_ {A = ℕ} 0 1 = cc in omega arith));
   late-at = λ m t. place m (late t) (inr (omega arith)) (λ q. absurd (let z : _≡_ {A = ℕ} 0 1 = cc in omega arith));
-  only-these = only-these L;
+  only-these = ⊎-elim (λ w. inr (inl (w .1, w .2))) (⊎-elim (λ e. inl e) (λ r. inr (inr r))) (only-these L);
 }
   where
     place : (m : ℕ) (b : Break) → (answerOf m b .number ≡ acceptedNumber) ⊎ (lastStatic < answerOf m b .number) → (b ≡ none → ⊥)
@@ -162,7 +163,11 @@ module _ (L : Asked) (x W : List ℤ) (n : length (L .tables .tasks) ≡ length 
       part-after L a
       ∙ (λ i. orElse (badSlice scheduleWidth maxPart (L .part)) shapeRefused (orElse (part-tasks (L .tables) x (supplierOf L) n p q (L .part) (supplierOf L) i) scheduleRefused acceptedNumber))
       ∙ sym (part-after (changed L x W) b) in
-      λ i. elim (e i) as (λ n. Answer) [ zero ↦ judged-same i | suc n ↦ record { number = suc n; mode = 0; tick = 0 } ]
+      let f : partAnswer L ≡ partAnswer (changed L x W) =
+      part-answer-after L a
+      ∙ (λ i. cond (badSlice scheduleWidth maxPart (L .part)) (placeless shapeRefused) (rowsAnswer scheduleRefused (tests-tasks (L .tables) x (supplierOf L) n p q (L .part) (supplierOf L) i)))
+      ∙ sym (part-answer-after (changed L x W) b) in
+      λ i. elim (e i) as (λ n. Answer) [ zero ↦ judged-same i | suc n ↦ f i ]
 
 -- other suppliers' worst-case times and windows do not matter
 pub independent : Independent

@@ -42,7 +42,7 @@ tasks-only L times t same =
     })
 
 pub refused-uses-none : RefusedUsesNone
-refused-uses-none L X s l = refused-same L X l (some (advanceAnswer L .number) s (advance-judged L (advanceAnswer L .number) s .0 refl))
+refused-uses-none L X s l = refused-same L X l (some (advanceAnswer L .answer .number) s (advance-judged L (advanceAnswer L .answer .number) s .0 refl))
   where
     some : (n : ℕ) → Static n → advanceVerdict L ≡ n → acceptedNumber < advanceVerdict L
     some n (inl w) e = omega (arith, e, w .0)

@@ -7,22 +7,31 @@ use lib.ListN.{length, drop, length-append, length-drop}
 use lib.Seq.{drop-at}
 use Rattle.theory.specs.Verdict.{acceptedNumber, Refusal, within}
 use Rattle.theory.proofs.Bools.{bars-lt, _or_}
-use Rattle.theory.proofs.Verdict.{verdict-clear, verdict-both}
+use Rattle.theory.proofs.Verdict.{verdict-clear, verdict-both, by-rows}
 use Rattle.cells.specs.Limits.{maxCode, wordsEach}
-use Rattle.rules.specs.Verdict.{shapeRefusal, tableRefusals, programVerdict}
+use Rattle.program.specs.Tables.{Tables}
+use Rattle.rules.specs.Verdict.{shapeRefusal, tableRefusals, programVerdict, programRules}
 use Rattle.rules.specs.Shape.{shapeBad}
 use Rattle.rules.proofs.Accepted.{lent-accepted}
-use Rattle.rules.proofs.Verdict.{program-first, program-accepted, missing-guard}
+use Rattle.rules.proofs.Verdict.{program-barred, program-first, program-first-at, program-number, program-accepted, missing-guard}
 use Rattle.code.specs.Op.{Op, emit, instructions}
 use Rattle.code.specs.Compile.{Compiling, listingOf, codeLong, sliceShort, sliceRefusals, compileVerdict, compileAnswer, compileSlice}
 use Rattle.code.proofs.Words.{emit-instructions, emit-length, words-are}
 use Rattle.code.proofs.Accepted.{accepted-length}
 use Rattle.code.proofs.Answers.{compile-passes, compile-refused}
-use Rattle.demands.specs.Verdict.{VerdictExact, AcceptedExactly, MissingReading, ListingWritten, RefusalKeeps}
+use Rattle.demands.specs.Verdict.{VerdictExact, VerdictByRows, VerdictNumber, AcceptedExactly, MissingReading, ListingWritten, RefusalKeeps}
 
--- the verdict is the number of the first rule that is broken
+-- the answer is that of the first rule that is broken, with its place
 pub verdict-exact : VerdictExact
-verdict-exact T n = program-first T n
+verdict-exact T x = program-first-at T x
+
+-- each rule that has a place holds exactly where no row breaks it
+pub verdict-by-rows : VerdictByRows
+verdict-by-rows T = by-rows (shapeRefusal ∷ tableRefusals) programRules T (program-barred T)
+
+-- the number of the answer is that of the first rule that is broken
+pub verdict-number : (T : Tables) → VerdictNumber T
+verdict-number T = record { number = program-number T; exact = program-first T }
 
 -- a program is accepted exactly where every rule holds
 pub accepted-exactly : AcceptedExactly

@@ -44,6 +44,6 @@ module _ (L : Compiling) (readings times : List ℤ) (m k : ℕ) (s : State) whe
 -- the compiled code of every program does the instant
 abbrev pub CompiledInstant : Type 0
 CompiledInstant =
-    (L : Compiling) → compileAnswer L .number ≡ acceptedNumber
+    (L : Compiling) → compileAnswer L .answer .number ≡ acceptedNumber
     → (readings times : List ℤ) (m k : ℕ) (s : State) → AtBlock (L .tables) m k s
     → InstantDone L readings times m k s

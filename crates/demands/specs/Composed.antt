@@ -17,7 +17,7 @@ use Rattle.giotto.specs.Instant.{Configuration, Function}
 use Rattle.giotto.specs.Execution.{execution, portsInTick}
 use Rattle.machine.specs.Advance.{Lent, freshAnswer, advanceAnswer}
 use Rattle.machine.specs.declared.State.{State}
-use Rattle.machine.specs.declared.Advanced.{Advanced}
+use Rattle.machine.specs.declared.Handed.{Handed}
 use Rattle.composed.specs.Suited.{Suited}
 
 -- what is composed: the tables, the windows, each supplier's part of the schedule, and the slice that is lent for compiling
@@ -33,7 +33,7 @@ compiling Y = record { tables = Y .tables; slice = Y .slice }
 -- a system is accepted: its program and windows are, the program is compiled, and each supplier's code is accepted alone
 pub record Accepted (Y : System) : Type 0 where
   pub windows : windowsVerdict (record { tables = Y .tables; windows = Y .windows }) ≡ acceptedNumber
-  pub compiled : compileAnswer (compiling Y) .number ≡ acceptedNumber
+  pub compiled : compileAnswer (compiling Y) .answer .number ≡ acceptedNumber
   pub suppliers : (s : ℕ) → s < suppliers
       → supplierVerdict (record { tables = Y .tables; windows = Y .windows; part = Y .parts s; supplier = pos s }) .number ≡ acceptedNumber
 
@@ -46,7 +46,7 @@ module _ (Y : System) where
   code = wordsOf (compiling Y)
 
   -- one advance of the system from a state, with what is lent to it
-  abbrev pub advanced : Lent → State → Advanced
+  abbrev pub advanced : Lent → State → Handed
   advanced X s = advanceAnswer (record { tables = Y .tables; code = code; schedule = joined; state = s; lent = X })
 
   -- the state before tick n: from a fresh state, one advance a tick; a refusal keeps the state
@@ -69,14 +69,14 @@ module _ (Y : System) where
 
     -- What is promised of tick n: it is not refused, and after it all ports hold Giotto's values
     pub record Right (n : ℕ) : Type 0 where
-      pub accepted : advanced (lents n) (stateAt lents n) .number ≡ acceptedNumber
+      pub accepted : advanced (lents n) (stateAt lents n) .answer .number ≡ acceptedNumber
       pub ports : stateAt lents (suc n) .ports ≡ portsInTick (programOf (Y .tables)) F readings n
 
 -- The composed run is Giotto's: the fresh state is given, and every tick is right as long as all ticks up to it are suited
 abbrev pub ComposedRun : Type 0
 ComposedRun =
     (Y : System) → Accepted Y
-    → (freshAnswer (Y .tables) .number ≡ acceptedNumber)
+    → (freshAnswer (Y .tables) .answer .number ≡ acceptedNumber)
     × ((F : Function) (lents : ℕ → Lent) (n : ℕ) → ((k : ℕ) → k ≤ n → SuitedAt Y F lents k) → Right Y F lents n)
 
 -- So values do not hang on who computes when: two accepted systems of one program, with other windows, other schedule code, other execution

@@ -5,6 +5,7 @@ use mathlib.Core.Path.{_≡_}
 use mathlib.Core.List.{[]}
 use mathlib.Core.Logic.{_⊎_}
 use lib.IntN.{pos}
+use Rattle.theory.specs.Rows.{placeless}
 use Rattle.theory.specs.Verdict.{acceptedNumber}
 use Rattle.cells.specs.Limits.{suppliers}
 use Rattle.program.specs.Tables.{taskCount, taskSupplier}
@@ -22,7 +23,7 @@ pub record Idle (L : Asked) : Type 0 where
 abbrev pub IdleAccepted : Type 0
 IdleAccepted =
     (L : Asked) → windowsVerdict (windowedOf L) ≡ acceptedNumber → supplierOf L < suppliers → Idle L
-    → supplierVerdict L ≡ record { number = acceptedNumber; mode = 0; tick = 0 }
+    → supplierVerdict L ≡ placeless acceptedNumber
 
 -- what is asked about supplier s of a system
 abbrev pub askedOf : System → ℕ → Asked
@@ -33,6 +34,6 @@ abbrev pub AcceptedOf : Type 0
 AcceptedOf =
     (Y : System)
     → windowsVerdict (record { tables = Y .tables; windows = Y .windows }) ≡ acceptedNumber
-    → compileAnswer (compiling Y) .number ≡ acceptedNumber
+    → compileAnswer (compiling Y) .answer .number ≡ acceptedNumber
     → ((s : ℕ) → s < suppliers → Idle (askedOf Y s) ⊎ (supplierVerdict (askedOf Y s) .number ≡ acceptedNumber))
     → Accepted Y

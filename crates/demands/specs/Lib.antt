@@ -4,6 +4,7 @@ pub mod Machine
 pub mod Uses
 pub mod Verdict
 pub mod Supplier
+pub mod Places
 pub mod Compiled
 pub mod Composed
 pub mod Relation

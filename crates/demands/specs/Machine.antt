@@ -26,35 +26,35 @@ WordsExact =
 
 -- 19: the instant comes to a faulty instruction, or runs off the end
 abbrev pub FaultyExact : Type 0
-FaultyExact = (L : Advance) → (advanceAnswer L .number ≡ faultyRefused) ↔ (Keep advanceRules L × Faults L)
+FaultyExact = (L : Advance) → (advanceAnswer L .answer .number ≡ faultyRefused) ↔ (Keep advanceRules L × Faults L)
 
 -- 16: the instant comes to an instruction that is not faulty, and releases a task with a time outside 1..worst case
 abbrev pub TimeExact : Type 0
-TimeExact = (L : Advance) → (advanceAnswer L .number ≡ timeRefused) ↔ (Keep advanceRules L × TimeWrong L)
+TimeExact = (L : Advance) → (advanceAnswer L .answer .number ≡ timeRefused) ↔ (Keep advanceRules L × TimeWrong L)
 
 -- 17: the instant comes to an instruction that neither 19 nor 16 refuses, and ends or releases a task that is still running
 abbrev pub OverrunExact : Type 0
-OverrunExact = (L : Advance) → (advanceAnswer L .number ≡ overrunRefused) ↔ (Keep advanceRules L × Overruns L)
+OverrunExact = (L : Advance) → (advanceAnswer L .answer .number ≡ overrunRefused) ↔ (Keep advanceRules L × Overruns L)
 
 -- 20: the instant runs more instructions than the code has
 abbrev pub CountExact : Type 0
-CountExact = (L : Advance) → (advanceAnswer L .number ≡ countRefused) ↔ (Keep advanceRules L × RunsOn L)
+CountExact = (L : Advance) → (advanceAnswer L .answer .number ≡ countRefused) ↔ (Keep advanceRules L × RunsOn L)
 
 -- 18: two suppliers run in the tick of an advance
 abbrev pub CollisionExact : Type 0
-CollisionExact = (L : Advance) → (advanceAnswer L .number ≡ collisionRefused) ↔ (Keep advanceRules L × Collides L)
+CollisionExact = (L : Advance) → (advanceAnswer L .answer .number ≡ collisionRefused) ↔ (Keep advanceRules L × Collides L)
 
 -- the state handed back differs from the one before only where document 01 says
 abbrev pub AdvanceMoves : Type 0
-AdvanceMoves = (L : Advance) → advanceAnswer L .number ≡ acceptedNumber → Advances L (advanceAnswer L .state)
+AdvanceMoves = (L : Advance) → advanceAnswer L .answer .number ≡ acceptedNumber → Advances L (advanceAnswer L .state)
 
 -- "after 4294967295 comes 0": the time stamp moves by one
 abbrev pub TimeMoves : Type 0
-TimeMoves = (L : Advance) → advanceAnswer L .number ≡ acceptedNumber → advanceAnswer L .state .time ≡ (L .state .time + 1) % 2 ^ 32
+TimeMoves = (L : Advance) → advanceAnswer L .answer .number ≡ acceptedNumber → advanceAnswer L .state .time ≡ (L .state .time + 1) % 2 ^ 32
 
 -- the instant of an accepted advance in which no tick of the unit remained came to a `return` that is not faulty, in no more
 -- instructions than the lent code has
 abbrev pub InstantCounted : Type 0
 InstantCounted =
-    (L : Advance) → advanceAnswer L .number ≡ acceptedNumber → L .state .remaining ≡ 0
+    (L : Advance) → advanceAnswer L .answer .number ≡ acceptedNumber → L .state .remaining ≡ 0
     → (u : State) × (w : Returns L u) × (w .reaches .before < length (L .code) / wordsEach)

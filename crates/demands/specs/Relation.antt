@@ -27,7 +27,7 @@ RelationKept =
     → Suited T (emit (listingOf T)) S F n C s X
     → Related T W S F n C s
     → let a = advanceAnswer (byCompiled T S X s) in
-    (a .number ≡ acceptedNumber) × Related T W S F (suc n) (pass (programOf T) F n (X .readings) C) (a .state)
+    (a .answer .number ≡ acceptedNumber) × Related T W S F (suc n) (pass (programOf T) F n (X .readings) C) (a .state)
 
 -- the relation holds before every tick of a composed run
 abbrev pub RelatedAlways : Type 0

@@ -11,7 +11,9 @@ use lib.Dec.{eqb}
 use lib.IntN.{ℤ}
 use lib.ListN.{length}
 use Rattle.theory.specs.Lists.{those, member}
-use Rattle.theory.specs.Verdict.{acceptedNumber, First, Keep}
+use Rattle.theory.specs.Rows.{placeless}
+use Rattle.theory.specs.Verdict.{acceptedNumber, Keep, FirstAt}
+use Rattle.theory.specs.declared.Answer.{Answer}
 use Rattle.cells.specs.Refusals.{shapeRefused, outsideRefused, lateRefused}
 use Rattle.program.specs.Tables.{Tables, modeCount, taskSupplier, taskWorst}
 use Rattle.runs.specs.Tick.{leftOf, Place, runsIn}
@@ -19,7 +21,7 @@ use Rattle.runs.specs.Windows.{windowCount, windowSupplier, windowMode, windowF
 use Rattle.runs.specs.Round.{Course, Choice, unitStart, going, Good, WithinWorst, worstCase, Break, outside, late, FirstBreak, nothing}
 use Rattle.suppliers.specs.Windows.{windowsVerdict}
 use Rattle.suppliers.specs.Schedule.{lastStatic}
-use Rattle.suppliers.specs.Supplier.{Asked, supplierOf, courseOf, windowedOf, partRules, supplierVerdict}
+use Rattle.suppliers.specs.Supplier.{Asked, supplierOf, courseOf, windowedOf, partRules, atTick, supplierVerdict}
 
 -- The place is that of the run with all worst-case times: the lowest mode whose run breaks, and the first break in it
 pub record BreaksAt (L : Asked) (m : ℕ) (b : Break) : Type 0 where
@@ -29,23 +31,23 @@ pub record BreaksAt (L : Asked) (m : ℕ) (b : Break) : Type 0 where
 
 -- What a supplier's verdict answers, the place included
 pub record SupplierExact (L : Asked) : Type 0 where
-  -- the answer is a number of 1 to 13, without a place, exactly where that rule is the first that is broken
-  pub refused : (n : ℕ) → shapeRefused ≤ n → n ≤ lastStatic
-      → (supplierVerdict L ≡ record { number = n; mode = 0; tick = 0 }) ↔ First partRules L n
+  -- the answer is a number of 1 to 13, with its place, exactly where that rule is the first that is broken
+  pub refused : (x : Answer) → shapeRefused ≤ x .number → x .number ≤ lastStatic → (supplierVerdict L ≡ x) ↔ FirstAt partRules L x
   -- where program and windows are accepted and the part is well-formed, it is accepted exactly when, in every mode, reached or not, and
   -- for every choice of an execution time from 1 to the worst case for every release, every tick in which the supplier runs lies in
   -- one of its windows and every task has ended at each of its termination instants
-  pub accepted : (supplierVerdict L ≡ record { number = acceptedNumber; mode = 0; tick = 0 })
+  pub accepted : (supplierVerdict L ≡ placeless acceptedNumber)
       ↔ (Keep partRules L
       × ((m : ℕ) → m < modeCount (L .tables) → (c : Choice) → WithinWorst (courseOf L m) c → Good (courseOf L m) c nothing))
   -- the answer is 14 or 15 exactly at its place
   pub outside-at : (m t : ℕ)
-      → (supplierVerdict L ≡ record { number = outsideRefused; mode = m; tick = t }) ↔ (Keep partRules L × BreaksAt L m (outside t))
+      → (supplierVerdict L ≡ atTick outsideRefused m t) ↔ (Keep partRules L × BreaksAt L m (outside t))
   pub late-at : (m t : ℕ)
-      → (supplierVerdict L ≡ record { number = lateRefused; mode = m; tick = t }) ↔ (Keep partRules L × BreaksAt L m (late t))
-  -- there is no other answer: "only 14 and 15 add a place, 0 and 0 otherwise"
-  pub only-these : ((supplierVerdict L .number ≤ lastStatic) × (supplierVerdict L .mode ≡ 0) × (supplierVerdict L .tick ≡ 0))
-      ⊎ ((supplierVerdict L .number ≡ outsideRefused) ⊎ (supplierVerdict L .number ≡ lateRefused))
+      → (supplierVerdict L ≡ atTick lateRefused m t) ↔ (Keep partRules L × BreaksAt L m (late t))
+  -- there is no other answer
+  pub only-these : (supplierVerdict L ≡ placeless acceptedNumber)
+      ⊎ (((shapeRefused ≤ supplierVerdict L .number) × (supplierVerdict L .number ≤ lastStatic))
+      ⊎ ((supplierVerdict L .number ≡ outsideRefused) ⊎ (supplierVerdict L .number ≡ lateRefused)))
 
 -- The worst case decides because a shorter run is dominated. Two runs of unit k of a course, of choice c from the remaining times r
 -- and of choice d from q:

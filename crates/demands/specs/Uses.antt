@@ -46,4 +46,4 @@ TasksOnly =
 -- an advance that is refused before it runs, by 1 to 13 or 21, uses nothing of what it is lent but the lengths
 abbrev pub RefusedUsesNone : Type 0
 RefusedUsesNone =
-    (L : Advance) (X : Lent) → Static (advanceAnswer L .number) → SameLengths L X → advanceAnswer L ≡ advanceAnswer (lending L X)
+    (L : Advance) (X : Lent) → Static (advanceAnswer L .answer .number) → SameLengths L X → advanceAnswer L ≡ advanceAnswer (lending L X)

@@ -5,19 +5,30 @@ use Prim.Native.Nat.{ℕ, _*_, _≤_, _<_}
 use mathlib.Core.Path.{_≡_}
 use mathlib.Core.Logic.{_↔_}
 use lib.ListN.{length, drop}
-use Rattle.theory.specs.Verdict.{acceptedNumber, First, Keep}
+use Rattle.theory.specs.Verdict.{acceptedNumber, First, Keep, FirstAt, ByRows}
+use Rattle.theory.specs.declared.Answer.{Answer}
 use Rattle.readings.specs.Reading.{noReading, Inside}
 use Rattle.cells.specs.Limits.{maxCode, wordsEach}
 use Rattle.program.specs.Tables.{Tables, driverCount, guardKind, guardLow, guardHigh, kindInterval}
 use Rattle.program.specs.Program.{programOf}
-use Rattle.rules.specs.Verdict.{programVerdict, programRules}
+use Rattle.rules.specs.Verdict.{programVerdict, programAnswer, programRules}
 use Rattle.code.specs.Op.{instructions}
 use Rattle.code.specs.Listing.{lengthRule}
 use Rattle.code.specs.Compile.{Compiling, listingOf, compileAnswer, compileSlice, wordsOf}
 
--- The verdict is n exactly where rule n is broken and no earlier one is; so it is 0 exactly where every rule holds
+-- The answer is x exactly where rule n, the number of x, is broken and no earlier one is, and the place of x is that of the lowest row
+-- that breaks rule n; so it is 0, without a place, exactly where every rule holds. What each rule asks of each row: rules/specs
 abbrev pub VerdictExact : Type 0
-VerdictExact = (T : Tables) → (n : ℕ) → (programVerdict T ≡ n) ↔ First programRules T n
+VerdictExact = (T : Tables) (x : Answer) → (programAnswer T ≡ x) ↔ FirstAt programRules T x
+
+-- each rule that has a place holds exactly where no row breaks it, where the rules before it hold
+abbrev pub VerdictByRows : Type 0
+VerdictByRows = (T : Tables) → ByRows programRules T
+
+-- the number alone, of which most statements speak, is n exactly where rule n is broken and no earlier one is
+pub record VerdictNumber (T : Tables) : Type 0 where
+  pub number : programAnswer T .number ≡ programVerdict T
+  pub exact : (n : ℕ) → (programVerdict T ≡ n) ↔ First programRules T n
 
 abbrev pub AcceptedExactly : Type 0
 AcceptedExactly = (T : Tables) → (programVerdict T ≡ acceptedNumber) ↔ Keep programRules T
@@ -37,9 +48,9 @@ pub record Compiles (L : Compiling) : Type 0 where
   pub same-length : length (compileSlice L) ≡ length (L .slice)
 
 abbrev pub ListingWritten : Type 0
-ListingWritten = (L : Compiling) → compileAnswer L .number ≡ acceptedNumber → Compiles L
+ListingWritten = (L : Compiling) → compileAnswer L .answer .number ≡ acceptedNumber → Compiles L
 
 -- compiling that is refused writes nothing, and its length is 0
 abbrev pub RefusalKeeps : Type 0
 RefusalKeeps =
-    (L : Compiling) → (compileAnswer L .number ≡ acceptedNumber → ⊥) → (compileSlice L ≡ L .slice) × (compileAnswer L .length ≡ 0)
+    (L : Compiling) → (compileAnswer L .answer .number ≡ acceptedNumber → ⊥) → (compileSlice L ≡ L .slice) × (compileAnswer L .length ≡ 0)

@@ -1,42 +1,52 @@
--- A fresh state's number is the program verdict's; refused, the state is all 0; accepted, it has the ports' first values and 0 elsewhere.
--- Assumes of each state that its number is given.
+-- A fresh state's answer is the answer on the program, its number the program verdict's; refused, the state is all 0; accepted, it has the
+-- ports' first values and 0 elsewhere. Assumes of each state that its number is given.
 use Prim.Native.Nat.{ℕ, _+_, _*_, _≤_, _<_}
 use mathlib.Core.Path.{_≡_, refl, sym, ap, subst, _∙_}
+use mathlib.Core.List.{_∷_}
 use native.Mathlib.Decide.{decLt}
 use native.Mathlib.Omega.{arith}
 use lib.IntN.{pos}
 use lib.ListN.{length, List·getD-eq-default}
 use Rattle.theory.specs.Verdict.{acceptedNumber}
+use Rattle.theory.specs.declared.Answer.{Answer}
 use Rattle.theory.proofs.Lists.{each-length, each-at}
+use Rattle.theory.proofs.Verdict.{accepted-answer}
 use Rattle.cells.specs.Limits.{maxPorts}
 use Rattle.program.specs.Tables.{Tables, portWidth, portCount, portFirst}
 use Rattle.program.specs.Program.{programOf}
 use Rattle.program.specs.Ports.{valueOf}
 use Rattle.rules.specs.Shape.{Shaped}
-use Rattle.rules.specs.Verdict.{programVerdict}
+use Rattle.rules.specs.Verdict.{shapeRefusal, tableRefusals, programVerdict, programAnswer}
+use Rattle.rules.proofs.Verdict.{program-number}
 use Rattle.rules.proofs.Accepted.{accepted-shaped}
-use Rattle.machine.specs.declared.Advanced.{Advanced}
+use Rattle.machine.specs.declared.Handed.{Handed}
 use Rattle.machine.specs.Advance.{freshAnswer}
 use Rattle.machine.specs.Fresh.{FirstValues, Fresh, AllZero}
 use Rattle.machine.proofs.Answered.{fresh-refused, fresh-accepted}
 
 module _ (T : Tables) where
-  -- the number of a fresh state is the program verdict's
-  pub fresh-number : freshAnswer T .number ≡ programVerdict T
-  fresh-number = go (decLt acceptedNumber (programVerdict T))
+  -- the answer of a fresh state is that on the program
+  pub fresh-answer : freshAnswer T .answer ≡ programAnswer T
+  unfolding programVerdict programAnswer
+  fresh-answer = go (decLt acceptedNumber (programVerdict T))
     where
-      go : Dec (acceptedNumber < programVerdict T) → freshAnswer T .number ≡ programVerdict T
-      go (yes l) = sym (ap (λ (a : Advanced). a .number) (fresh-refused T (programVerdict T) refl l))
+      go : Dec (acceptedNumber < programVerdict T) → freshAnswer T .answer ≡ programAnswer T
+      go (yes l) = sym (ap (λ (h : Handed). h .answer) (fresh-refused T l))
       go (no l) =
           let z : programVerdict T ≡ acceptedNumber = omega (arith, l) in
-          sym (ap (λ (a : Advanced). a .number) (fresh-accepted T z)) ∙ sym z
+          sym (ap (λ (h : Handed). h .answer) (fresh-accepted T z))
+          ∙ sym (accepted-answer (shapeRefusal ∷ tableRefusals) T (omega arith) z)
+
+  -- the number of a fresh state is the program verdict's
+  pub fresh-number : freshAnswer T .answer .number ≡ programVerdict T
+  fresh-number = ap (λ (x : Answer). x .number) fresh-answer ∙ program-number T
 
   -- a fresh state that is refused is all 0
-  pub fresh-zero : (freshAnswer T .number ≡ acceptedNumber → ⊥) → AllZero (freshAnswer T .state)
+  pub fresh-zero : (freshAnswer T .answer .number ≡ acceptedNumber → ⊥) → AllZero (freshAnswer T .state)
   fresh-zero h = go (decLt acceptedNumber (programVerdict T))
     where
       go : Dec (acceptedNumber < programVerdict T) → AllZero (freshAnswer T .state)
-      go (yes l) = subst (λ (a : Advanced). AllZero (a .state)) (fresh-refused T (programVerdict T) refl l)
+      go (yes l) = subst (λ (h : Handed). AllZero (h .state)) (fresh-refused T l)
           (record {
             ports = refl;
             outputs = refl;
@@ -61,11 +71,11 @@ module _ (T : Tables) where
           List·getD-eq-default (programOf T .first) (pos 0) past
 
   -- a fresh state that is accepted has the first values in the first two and 0 elsewhere
-  pub fresh-first : freshAnswer T .number ≡ acceptedNumber → Fresh T (freshAnswer T .state)
+  pub fresh-first : freshAnswer T .answer .number ≡ acceptedNumber → Fresh T (freshAnswer T .state)
   fresh-first e =
       let z : programVerdict T ≡ acceptedNumber = sym fresh-number ∙ e in
       let f = first-values (accepted-shaped T z) in
-      subst (λ (a : Advanced). Fresh T (a .state)) (fresh-accepted T z)
+      subst (λ (h : Handed). Fresh T (h .state)) (fresh-accepted T z)
       (record {
         ports = f;
         outputs = f;

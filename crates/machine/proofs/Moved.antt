@@ -20,7 +20,7 @@ use Rattle.program.specs.Ports.{valueOf, takes}
 use Rattle.program.proofs.Ports.{takes-at, takes-miss}
 use Rattle.runs.specs.Tick.{leftOf, work, leftAfter}
 use Rattle.machine.specs.declared.State.{State}
-use Rattle.machine.specs.declared.Advanced.{Advanced}
+use Rattle.machine.specs.declared.Handed.{Handed}
 use Rattle.machine.specs.Instant.{Outcome, ok, stop}
 use Rattle.machine.specs.Schedules.{Who, nobody, one, several, movedOf, running, outputsAfter, afterTick, ticked, tickAll}
 use Rattle.machine.specs.Advance.{Advance, advanceVerdict, answer, advanceAnswer}
@@ -29,7 +29,7 @@ use Rattle.machine.specs.Moves.{Works, Passes, InstantKeeps, Advances}
 use Rattle.machine.proofs.Outcomes.{ok-not-stop, finished}
 use Rattle.machine.proofs.Completing.{outputs-done, outputs-same}
 use Rattle.machine.proofs.Ready.{step-leaves}
-use Rattle.machine.proofs.Answered.{outcome, advance-refused, advance-steps}
+use Rattle.machine.proofs.Answered.{outcome, advance-steps, refused-number, step-answered}
 use Rattle.machine.proofs.Refusals.{step-number}
 use Rattle.machine.proofs.Comes.{returns}
 use Rattle.machine.proofs.Stopped.{before-tick}
@@ -103,7 +103,7 @@ tick-passes P S results s u = go (running S s) refl
 
 module _ (L : Advance) where
   -- an advance answers 0 only with what its step leaves
-  pub accepted : advanceAnswer L .number ≡ acceptedNumber → outcome L ≡ ok (advanceAnswer L .state)
+  pub accepted : advanceAnswer L .answer .number ≡ acceptedNumber → outcome L ≡ ok (advanceAnswer L .state)
   accepted z = go (decLt acceptedNumber (advanceVerdict L))
     where
       end : (o : Outcome) → outcome L ≡ o → answer (L .state) o .number ≡ acceptedNumber → o ≡ ok (answer (L .state) o .state)
@@ -111,14 +111,13 @@ module _ (L : Advance) where
       end (stop n) e q = absurd (omega (arith, q, step-number (program L) (code L) (L .schedule) (L .lent) (L .state) n e))
 
       go : Dec (acceptedNumber < advanceVerdict L) → outcome L ≡ ok (advanceAnswer L .state)
-      go (yes l) = absurd (omega (arith, z, l, ap (λ (a : Advanced). a .number) (advance-refused L (advanceVerdict L) refl l)))
+      go (yes l) = absurd (omega (arith, z, l, refused-number L l))
       go (no l) =
           let v : advanceVerdict L ≡ acceptedNumber = omega (arith, l) in
-          let e = advance-steps L v in
-          end (outcome L) refl (ap (λ (a : Advanced). a .number) e ∙ z) ∙ ap (λ (a : Advanced). ok (a .state)) e
+          end (outcome L) refl (sym (step-answered L v) ∙ z) ∙ ap (λ (h : Handed). ok (h .state)) (advance-steps L v)
 
   -- an accepted advance has a state before its tick, from which the tick passes
-  before : advanceAnswer L .number ≡ acceptedNumber
+  before : advanceAnswer L .answer .number ≡ acceptedNumber
       → (v : State) × BeforeTick L v × Passes (program L) (L .schedule) (L .lent .results) v (advanceAnswer L .state)
   before z =
       let w = step-leaves (program L) (code L) (L .schedule) (L .lent) (L .state) (advanceAnswer L .state) (accepted z) in (
@@ -128,7 +127,7 @@ module _ (L : Advance) where
       )
 
   -- an accepted advance changes only what the claims say
-  pub advance-moves : advanceAnswer L .number ≡ acceptedNumber → Advances L (advanceAnswer L .state)
+  pub advance-moves : advanceAnswer L .answer .number ≡ acceptedNumber → Advances L (advanceAnswer L .state)
   advance-moves z = let (v, b, p) = before z in record { between = v; begun = begun v b; passes = p }
     where
       begun : (v : State) → BeforeTick L v
@@ -138,7 +137,7 @@ module _ (L : Advance) where
           inr (w .reaches .no-tick-left, instant-keeps (program L) (L .lent .readings) (L .lent .times) (code L) (L .state) v (returns L v .0 w .1))
 
   -- an instant of an accepted advance came to its end within as many instructions as the code has
-  pub instant-counted : advanceAnswer L .number ≡ acceptedNumber → L .state .remaining ≡ 0 → (u : State) × Returns L u
+  pub instant-counted : advanceAnswer L .answer .number ≡ acceptedNumber → L .state .remaining ≡ 0 → (u : State) × Returns L u
   instant-counted z r = let (v, b, p) = before z in (v, ends v b)
     where
       ends : (v : State) → BeforeTick L v → Returns L v

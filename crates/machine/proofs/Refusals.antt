@@ -12,16 +12,16 @@ use Rattle.cells.specs.Refusals.{faultyRefused, countRefused}
 use Rattle.program.specs.Program.{Program}
 use Rattle.code.specs.Op.{Op}
 use Rattle.machine.specs.declared.State.{State}
-use Rattle.machine.specs.declared.Advanced.{Advanced}
+use Rattle.machine.specs.declared.Handed.{Handed}
 use Rattle.machine.specs.Instant.{Outcome, ok, stop, startAt, RefusedAt, Spent}
 use Rattle.machine.specs.Schedules.{tickAll}
 use Rattle.machine.specs.Advance.{Lent, Advance, advanceVerdict, ready, step, answer, advanceAnswer}
 use Rattle.machine.proofs.Collide.{tick-refused}
 use Rattle.machine.proofs.Ready.{ready-stops, step-refused}
-use Rattle.machine.proofs.Answered.{outcome, advance-refused, advance-steps}
+use Rattle.machine.proofs.Answered.{outcome, advance-refused, advance-steps, step-answered}
 
 -- an advance that is refused hands the state back as it was
-pub refused-keeps : (L : Advance) → (advanceAnswer L .number ≡ acceptedNumber → ⊥) → advanceAnswer L .state ≡ L .state
+pub refused-keeps : (L : Advance) → (advanceAnswer L .answer .number ≡ acceptedNumber → ⊥) → advanceAnswer L .state ≡ L .state
 refused-keeps L h = go (decLt acceptedNumber (advanceVerdict L))
   where
     end : (o : Outcome) → (answer (L .state) o .number ≡ acceptedNumber → ⊥) → answer (L .state) o .state ≡ L .state
@@ -29,11 +29,10 @@ refused-keeps L h = go (decLt acceptedNumber (advanceVerdict L))
     end (stop n) h = refl
 
     go : Dec (acceptedNumber < advanceVerdict L) → advanceAnswer L .state ≡ L .state
-    go (yes l) = sym (ap (λ (a : Advanced). a .state) (advance-refused L (advanceVerdict L) refl l))
+    go (yes l) = sym (ap (λ (h : Handed). h .state) (advance-refused L l))
     go (no l) =
         let z : advanceVerdict L ≡ acceptedNumber = omega (arith, l) in
-        let e = advance-steps L z in
-        sym (ap (λ (a : Advanced). a .state) e) ∙ end (outcome L) (λ q. h (sym (ap (λ (a : Advanced). a .number) e) ∙ q))
+        sym (ap (λ (h : Handed). h .state) (advance-steps L z)) ∙ end (outcome L) (λ q. h (step-answered L z ∙ q))
 
 -- the E part of an advance is refused with no 0
 pub ready-number : (P : Program) (code : List Op) (readings times : List ℤ) (s : State) (n : ℕ) → ready P code readings times s ≡ stop n → acceptedNumber < n

@@ -2,7 +2,7 @@
 -- Assumes that agreement.
 use Prim.Native.Nat.{ℕ, zero, suc, _≤_, _<_}
 use mathlib.Core.Path.{_≡_, refl, sym, ap, subst, _∙_}
-use mathlib.Core.Bool.{Bool, true, false, not}
+use mathlib.Core.Bool.{Bool, true, false, not, cond}
 use mathlib.Core.List.{List, [], _∷_, _++_, map}
 use native.Mathlib.Omega.{arith}
 use lib.Dec.{eqb}
@@ -10,7 +10,9 @@ use lib.IntN.{ℤ}
 use lib.ListN.{length, getD, set}
 use borrow.Author.Tests.{eqb-true}
 use Rattle.theory.specs.Lists.{member, Put, puts}
-use Rattle.theory.specs.Verdict.{acceptedNumber, orElse, within, verdict}
+use Rattle.theory.specs.Rows.{placeless}
+use Rattle.theory.specs.Verdict.{acceptedNumber, orElse, within, verdict, firstRefusal}
+use Rattle.theory.specs.declared.Answer.{Answer}
 use Rattle.theory.proofs.Lists.{map-same}
 use Rattle.theory.proofs.Members.{every-member}
 use Rattle.cells.specs.Cell.{numAt}
@@ -31,7 +33,8 @@ use Rattle.machine.specs.Instruction.{stillRunning, called, executes}
 use Rattle.machine.specs.Instant as instant
 use Rattle.machine.specs.Instant.{Outcome, ok, stop, isReturn, refusalAt, Goes}
 use Rattle.machine.specs.Schedules.{Who, nobody, one, several, running, afterTick, ticked, tickAll}
-use Rattle.machine.specs.Advance.{Lent, Advance, advanceShapeBad, runRefusals, advanceVerdict, advanceAnswer, ready, answer}
+use Rattle.machine.specs.Advance.{Lent, Advance, advanceShapeBad, runRefusals, advanceRefusals, advanceVerdict, advanceAnswer}
+use Rattle.machine.specs.Advance.{ready, answer, handed}
 use Rattle.machine.specs.Comes.{program, code, instantStart, standing, FaultyAt}
 use Rattle.machine.specs.Uses.{Meets, Reads, Releases, lending, SameLengths, Agrees}
 use Rattle.machine.proofs.Instructions.{faulty-says}
@@ -170,9 +173,17 @@ module _ (L : Advance) (X : Lent) (l : SameLengths L X) where
       ap (λ (b : Bool). orElse b shapeRefused (verdict (map (within (λ (K : Advance). K .tables)) (tableRefusals ++ (longRefusal ∷ [])) ++ runRefusals) L))
       same-shape
 
+  same-judged : firstRefusal advanceRefusals L ≡ firstRefusal advanceRefusals (lending L X)
+  same-judged =
+      ap (λ (b : Bool). cond b (placeless shapeRefused) (firstRefusal (map (within (λ (K : Advance). K .tables)) (tableRefusals ++ (longRefusal ∷ [])) ++ runRefusals) L))
+      same-shape
+
   -- where a number is given before anything runs, the answer is the same
   pub refused-same : acceptedNumber < advanceVerdict L → advanceAnswer L ≡ advanceAnswer (lending L X)
-  refused-same h = sym (advance-refused L (advanceVerdict L) refl h) ∙ advance-refused (lending L X) (advanceVerdict L) same-verdict h
+  refused-same h =
+      sym (advance-refused L h)
+      ∙ ap (λ (x : Answer). record { answer = x; state = L .state }) same-judged
+      ∙ advance-refused (lending L X) (omega (arith, h, same-verdict))
 
 module _ (L : Advance) (X : Lent) (A : Agrees L X) where
   -- an instruction that the instant comes to uses the same of both
@@ -240,7 +251,7 @@ module _ (L : Advance) (X : Lent) (A : Agrees L X) where
       go : (n : ℕ) → advanceVerdict L ≡ n → advanceAnswer L ≡ advanceAnswer (lending L X)
       go zero e =
           sym (advance-steps L e)
-          ∙ ap (answer (L .state)) same-step
+          ∙ ap (λ (o : Outcome). handed (answer (L .state) o)) same-step
           ∙ advance-steps (lending L X) (sym (same-verdict L X (A .lengths)) ∙ e)
       go (suc n) e = refused-same L X (A .lengths) (omega (arith, e))
 

@@ -8,20 +8,22 @@ use lib.Dec.{ltb, leb}
 use lib.IntN.{ℤ, pos}
 use lib.ListN.{length, getD, replicate}
 use Rattle.theory.specs.Search.{any}
-use Rattle.theory.specs.Verdict.{acceptedNumber, Refusal, verdict, Rule}
+use Rattle.theory.specs.Rows.{placeless}
+use Rattle.theory.specs.Verdict.{acceptedNumber, Refusal, unplaced, verdict, firstRefusal, Rule, unplacedRule}
 use Rattle.cells.specs.Limits.{suppliers, maxPorts, maxTasks, maxSchedule, maxCode, wordsEach, maxElapsed, maxRemaining, maxLeft}
 use Rattle.cells.specs.Refusals.{scheduleRefused, stateRefused}
 use Rattle.program.specs.Tables.{Tables}
 use Rattle.program.specs.Program.{Program, programOf}
 use Rattle.rules.specs.Shape.{badSlice, badLength, shapeBad, WholeRows, Shaped}
-use Rattle.rules.specs.Verdict.{programVerdict}
+use Rattle.rules.specs.Verdict.{programVerdict, programAnswer}
 use Rattle.runs.specs.Tick.{leftOf}
 use Rattle.runs.specs.Schedule.{scheduleWidth, scheduleCount}
 use Rattle.code.specs.Op.{Op, instructions}
 use Rattle.code.specs.Compile.{callRefusals, callRules}
-use Rattle.suppliers.specs.Schedule.{joinedBad, Joined}
+use Rattle.suppliers.specs.Schedule.{joinedTests, joinedBad, Joined, joinedRowRules}
 use Rattle.machine.specs.declared.State.{State}
 use Rattle.machine.specs.declared.Advanced.{Advanced}
+use Rattle.machine.specs.declared.Handed.{Handed}
 use Rattle.machine.specs.Instant.{Outcome, ok, stop, runInstant}
 use Rattle.machine.specs.Schedules.{tickAll}
 
@@ -39,10 +41,10 @@ stateOf v = record {
 }
 
 -- "a fresh state has the ports' first values in the first two and 0 elsewhere"; refused, it is all 0
-unfoldable pub freshAnswer : Tables → Advanced
+unfoldable pub freshAnswer : Tables → Handed
 freshAnswer T = elim (programVerdict T) [
-  | zero ↦ record { number = acceptedNumber; state = stateOf (programOf T .first) }
-  | suc n ↦ record { number = suc n; state = stateOf (replicate maxPorts (pos 0)) }
+  | zero ↦ record { answer = placeless acceptedNumber; state = stateOf (programOf T .first) }
+  | suc n ↦ record { answer = programAnswer T; state = stateOf (replicate maxPorts (pos 0)) }
 ]
 
 -- what is lent to a tick: by port readings and results, by task times
@@ -99,8 +101,12 @@ pub record StateFits (L : Advance) : Type 0 where
 -- the static verdict of an advance: numbers 1 to 11, 13 and 21
 abbrev pub runRefusals : List (Refusal Advance)
 runRefusals =
-    record { number = scheduleRefused; applies = λ L. joinedBad (L .tables) (L .schedule) }
-    ∷ record { number = stateRefused; applies = stateBad }
+    record {
+      number = scheduleRefused;
+      applies = λ L. joinedBad (L .tables) (L .schedule);
+      rows = λ L. joinedTests (L .tables) (L .schedule);
+    }
+    ∷ unplaced stateRefused stateBad
     ∷ []
 
 abbrev pub advanceRefusals : List (Refusal Advance)
@@ -111,8 +117,12 @@ advanceVerdict L = verdict advanceRefusals L
 
 abbrev pub runRules : List (Rule Advance)
 runRules =
-    record { number = scheduleRefused; holds = λ L. Joined (L .tables) (L .schedule) }
-    ∷ record { number = stateRefused; holds = StateFits }
+    record {
+      number = scheduleRefused;
+      holds = λ L. Joined (L .tables) (L .schedule);
+      rows = λ L. joinedRowRules (L .tables) (L .schedule);
+    }
+    ∷ unplacedRule stateRefused StateFits
     ∷ []
 
 abbrev pub advanceRules : List (Rule Advance)
@@ -129,8 +139,12 @@ abbrev pub answer : State → Outcome → Advanced
 answer s (ok u) = record { number = acceptedNumber; state = u }
 answer s (stop n) = record { number = n; state = s }
 
-unfoldable pub advanceAnswer : Advance → Advanced
+-- what an advance hands back whose step came to this: 16 to 20 have no place
+abbrev pub handed : Advanced → Handed
+handed a = record { answer = placeless (a .number); state = a .state }
+
+unfoldable pub advanceAnswer : Advance → Handed
 advanceAnswer L = elim (advanceVerdict L) [
-  | zero ↦ answer (L .state) (step (programOf (L .tables)) (instructions (L .code)) (L .schedule) (L .lent) (L .state))
-  | suc n ↦ record { number = suc n; state = L .state }
+  | zero ↦ handed (answer (L .state) (step (programOf (L .tables)) (instructions (L .code)) (L .schedule) (L .lent) (L .state)))
+  | suc n ↦ record { answer = firstRefusal advanceRefusals L; state = L .state }
 ]

@@ -9,7 +9,7 @@ use lib.Dec.{ltb, leb}
 use lib.IntN.{ℤ}
 use lib.ListN.{length, set, replicate}
 use Rattle.theory.specs.Lists.{member, puts}
-use Rattle.theory.specs.Verdict.{Refusal}
+use Rattle.theory.specs.Verdict.{Refusal, unplaced}
 use Rattle.cells.specs.Cell.{numAt}
 use Rattle.cells.specs.Limits.{suppliers, maxDelay, firstOutputCall, firstSensorCall}
 use Rattle.cells.specs.Refusals.{timeRefused, overrunRefused, faultyRefused}
@@ -121,9 +121,9 @@ module _ (P : Program) (readings times : List ℤ) where
   -- the refusals of one instruction, "the order is 20, 19, 16, 17": the last three (20 counts instructions, in Instant.antt)
   abbrev pub instructionRefusals : ℕ → Op → List (Refusal At)
   instructionRefusals n o =
-      record { number = faultyRefused; applies = λ a. isFaulty P n (a .planned) o }
-      ∷ record { number = timeRefused; applies = λ a. timeBad P times o }
-      ∷ record { number = overrunRefused; applies = λ a. stillRunning (a .state) o }
+      unplaced faultyRefused (λ a. isFaulty P n (a .planned) o)
+      ∷ unplaced timeRefused (λ a. timeBad P times o)
+      ∷ unplaced overrunRefused (λ a. stillRunning (a .state) o)
       ∷ []
 
   -- what a call does: a driver copies only when its guard holds; an output copy takes the task's local outputs; a sensor is read

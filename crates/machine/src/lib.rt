@@ -1,6 +1,7 @@
 // The composed machine: its state, and what an instant, a tick and an advance hand on. What they come to is in specs/.
 use cells::kinds::Task;
 use cells::limits::Program;
+use theory::Answer;
 
 // The state of the machine: port values, local outputs, time stamp, pending address, current `future` address, elapsed and
 // remaining ticks of the unit, remaining time by task, position by supplier (rows of its block passed).
@@ -16,9 +17,15 @@ pub struct State {
     pub positions: [usize; Program::SUPPLIERS],
 }
 
-// What a call on the machine answers: a number, and the state handed back, which is as before on a refusal.
+// What an instant or a tick comes to: 0 and the state after it, or the number that stops it and the state as it was.
 pub struct Advanced {
     pub number: usize,
+    pub state: State,
+}
+
+// What a call on the machine answers: number and place, and the state handed back, which is as before on a refusal.
+pub struct Handed {
+    pub answer: Answer,
     pub state: State,
 }
 

@@ -1,4 +1,4 @@
-// The kinds `advance` and `run`: a system a case, and what is lent to one tick or to each of so many; the number and the state handed
+// The kinds `advance` and `run`: a system a case, and what is lent to one tick or to each of so many; the answer and the state handed
 // back a line, which is the next tick's.
 use crate::lines;
 use crate::systems;

@@ -1,6 +1,6 @@
-// A number and the state handed back, as a line. Each function answers whether all of it was written.
+// An answer and the state handed back, as a line. Each function answers whether all of it was written.
 use cases::out;
-use machine::Advanced;
+use machine::Handed;
 use machine::State;
 
 // Prints values, each after a space.
@@ -44,14 +44,14 @@ fn moment(s: State) -> bool {
     out::after_space(s.remaining)
 }
 
-// Prints a number and the state handed back with it, on a line.
-pub fn line(a: Advanced) -> bool {
+// Prints an answer and the state handed back with it, on a line.
+pub fn line(a: Handed) -> bool {
     let state = a.state;
     let ports = state.ports;
     let outputs = state.outputs;
     let left = state.left;
     let positions = state.positions;
-    if !out::digits(a.number) {
+    if !out::answer(a.answer) {
         return false;
     }
     if !values(&ports) {

@@ -1,4 +1,4 @@
-// The kind `long`: a system a case, how many ticks, and what is lent to all of them alike; the number and the state after the last, or
+// The kind `long`: a system a case, how many ticks, and what is lent to all of them alike; the answer and the state after the last, or
 // at the first refusal, a line.
 use crate::lines;
 use crate::systems;
@@ -11,7 +11,7 @@ use cases::stream::Reader;
 use cases::tables::Lengths;
 use cells::parts::part;
 use cells::refusals;
-use machine::Advanced;
+use machine::Handed;
 use machine::State;
 
 // Steps so many ticks of a system that was read, all lent the same, up to the first that is refused.
@@ -26,14 +26,13 @@ fn ticks(
     readings: &[i32],
     results: &[i32],
     times: &[i32],
-) -> Advanced {
-    let mut at = Advanced {
-        number: refusals::ACCEPTED,
-        state: s,
-    };
+) -> Handed {
+    let answer = answers::accepted();
+    let mut at = Handed { answer, state: s };
     let mut i = 0;
     while i < n {
-        if refusals::ACCEPTED < at.number {
+        let answer = at.answer;
+        if refusals::ACCEPTED < answer.number {
             return at;
         }
         let state = at.state;

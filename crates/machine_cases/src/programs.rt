@@ -1,4 +1,4 @@
-// The kinds `verdict` and `fresh`: a program a case; its verdict, or its number and the fresh state, a line.
+// The kinds `verdict` and `fresh`: a program a case; its answer, or its answer and the fresh state, a line.
 use crate::lines;
 use cases::out;
 use cases::out::Outcome;
@@ -17,7 +17,7 @@ fn judged(l: Lengths, room: &[i32], fresh: bool) -> bool {
     if fresh {
         return lines::line(operation::fresh(&all, l.program));
     }
-    out::number(verdict::program_verdict(&all, l.program))
+    out::answer_line(verdict::program_verdict(&all, l.program))
 }
 
 // Answers a case of the kind `fresh`, or of the kind `verdict`.

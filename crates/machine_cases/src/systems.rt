@@ -5,7 +5,7 @@ use cases::tables;
 use cases::tables::Lengths;
 use cells::parts::least;
 use cells::parts::part;
-use machine::Advanced;
+use machine::Handed;
 use machine::State;
 
 // What was read of a system: program, how many words of its code and numbers of its schedule were kept, and state.
@@ -103,7 +103,7 @@ pub fn advanced(
     readings: &[i32],
     results: &[i32],
     times: &[i32],
-) -> Advanced {
+) -> Handed {
     operation::advance(
         &tables::tables_in(l, room),
         l.program,

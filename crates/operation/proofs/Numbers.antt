@@ -1,62 +1,88 @@
--- The number of an advance: its own 1, what every call asks of the tables, then 13 and 21; and what is known where there is none.
+-- The answer of an advance before anything runs: its own 1, what every call asks of the tables, then 13 and 21; and what is known where
+-- there is none.
 -- Assumes of what runs that its number is 0.
-use Prim.Native.Nat.{ℕ, _/_, _≤_, _<_}
+use Prim.Native.Nat.{_/_, _≤_, _<_}
 use mathlib.Core.Path.{_≡_, sym, ap, _∙_}
-use mathlib.Core.Bool.{true, false}
+use mathlib.Core.Bool.{Bool, true, false, cond}
 use mathlib.Core.List.{List, [], _∷_, _++_, map}
 use native.Mathlib.Omega.{arith}
 use lib.ListN.{length}
-use Rattle.theory.specs.Verdict.{acceptedNumber, Refusal, orElse, within, after}
+use Rattle.theory.specs.Rows.{placeless}
+use Rattle.theory.specs.Verdict.{acceptedNumber, Refusal, unplaced, within, firstRefusal, rowsAnswer, orNext}
+use Rattle.theory.specs.declared.Answer.{Answer}
 use Rattle.theory.proofs.Bools.{bars-iff}
-use Rattle.theory.proofs.Conditions.{or-else-yes, or-else-no}
-use Rattle.theory.proofs.Verdict.{after-given, verdict-clear, verdict-both}
+use Rattle.theory.proofs.Verdict.{next-given, next-none, answer-append, verdict-clear, verdict-both}
 use Rattle.cells.specs.Limits.{maxCode, wordsEach}
 use Rattle.cells.specs.Refusals.{shapeRefused, scheduleRefused, stateRefused}
 use Rattle.rules.specs.Shape.{shapeBad}
 use Rattle.rules.specs.Verdict.{tableRefusals}
 use Rattle.rules.proofs.Shape.{shape-bars, whole-few}
 use Rattle.code.specs.Compile.{longRefusal}
-use Rattle.verdict_2_11.specs.Tables.{tablesAndCodeVerdict}
-use Rattle.verdict_2_11.proofs.Asked.{call-first}
-use Rattle.suppliers.specs.Schedule.{joinedBad, Rows}
+use Rattle.verdict_2_11.specs.Tables.{tablesAndCodeAnswer}
+use Rattle.verdict_2_11.proofs.Asked.{call-answer}
+use Rattle.suppliers.specs.Schedule.{joinedTests, joinedBad, Rows}
 use Rattle.suppliers.proofs.Schedule.{joined-bars}
 use Rattle.machine.specs.Advance.{Advance, advanceShapeBad, stateBad, StateFits, runRefusals, advanceRefusals, advanceVerdict}
 use Rattle.machine.proofs.Fits.{advance-shape-bars, state-bars}
+use Rattle.operation.specs.Advancing.{judgedAnswer}
 
--- the number of an advance is 1, then 2 to 11 of the tables, then 13 and 21
-advance-number : (L : Advance)
-    → advanceVerdict L
-    ≡ orElse (advanceShapeBad L) shapeRefused (after (tablesAndCodeVerdict (L .tables)) (orElse (joinedBad (L .tables) (L .schedule)) scheduleRefused (orElse (stateBad L) stateRefused acceptedNumber)))
-unfolding advanceVerdict
-advance-number L = ap (orElse (advanceShapeBad L) shapeRefused) (call-first (λ (L : Advance). L .tables) runRefusals L)
+-- the answer of 21 by itself
+abbrev pub stateAnswer : Advance → Answer
+stateAnswer L = cond (stateBad L) (placeless stateRefused) (placeless acceptedNumber)
+
+-- the answer of 13, and then that of 21
+abbrev pub ownAnswer : Advance → Answer
+ownAnswer L = orNext (rowsAnswer scheduleRefused (joinedTests (L .tables) (L .schedule))) (stateAnswer L)
+
+-- 13 and 21 are asked in this order
+own-order : (L : Advance) → firstRefusal runRefusals L ≡ ownAnswer L
+unfolding joinedBad
+own-order L = answer-append (thirteen ∷ []) (unplaced stateRefused stateBad ∷ []) L (omega arith)
+  where
+    thirteen : Refusal Advance
+    thirteen = record {
+      number = scheduleRefused;
+      applies = λ L. joinedBad (L .tables) (L .schedule);
+      rows = λ L. joinedTests (L .tables) (L .schedule);
+    }
+
+-- the answer of an advance before anything runs is 1, then that of 2 to 11 of the tables, then that of 13 and 21
+judged-order : (L : Advance)
+    → judgedAnswer L ≡ cond (advanceShapeBad L) (placeless shapeRefused) (orNext (tablesAndCodeAnswer (L .tables)) (ownAnswer L))
+unfolding judgedAnswer
+judged-order L =
+    ap (cond (advanceShapeBad L) (placeless shapeRefused))
+    (call-answer (λ (L : Advance). L .tables) runRefusals L ∙ ap (orNext (tablesAndCodeAnswer (L .tables))) (own-order L))
 
 module _ (L : Advance) where
-  -- where something that is lent does not have its shape, the number is 1
-  pub advance-one : advanceShapeBad L ≡ true → advanceVerdict L ≡ shapeRefused
-  advance-one e = advance-number L ∙ or-else-yes shapeRefused _ e
+  -- where something that is lent does not have its shape, the answer is 1
+  pub judged-one : advanceShapeBad L ≡ true → judgedAnswer L ≡ placeless shapeRefused
+  judged-one e = judged-order L ∙ ap (λ (b : Bool). cond b (placeless shapeRefused) (orNext (tablesAndCodeAnswer (L .tables)) (ownAnswer L))) e
 
   -- where everything that is lent has its shape, so have the tables
   pub advance-shaped : advanceShapeBad L ≡ false → shapeBad (L .tables) ≡ false
   advance-shaped e = bars-iff (shape-bars (L .tables)) .1 (advance-shape-bars L .ok e .tables)
 
-  module _ (s : advanceShapeBad L ≡ false) where
-    -- a number of the tables that every call asks for is the advance's
-    pub advance-given : (n : ℕ) → n ≡ tablesAndCodeVerdict (L .tables) → acceptedNumber < n → advanceVerdict L ≡ n
-    advance-given n e l =
-        let own = orElse (joinedBad (L .tables) (L .schedule)) scheduleRefused (orElse (stateBad L) stateRefused acceptedNumber) in
-        advance-number L ∙ or-else-no shapeRefused _ s ∙ ap (λ (k : ℕ). after k own) (sym e) ∙ after-given n own l
+  module _ (s : advanceShapeBad L ≡ false) (x : Answer) (e : x ≡ tablesAndCodeAnswer (L .tables)) where
+    -- where everything that is lent has its shape, the tables are asked, then 13 and 21
+    judged-next : judgedAnswer L ≡ orNext x (ownAnswer L)
+    judged-next =
+        judged-order L
+        ∙ ap (λ (b : Bool). cond b (placeless shapeRefused) (orNext (tablesAndCodeAnswer (L .tables)) (ownAnswer L))) s
+        ∙ ap (λ (y : Answer). orNext y (ownAnswer L)) (sym e)
 
-    -- where the tables have no number, 13 and 21 decide
-    pub advance-own : tablesAndCodeVerdict (L .tables) ≡ acceptedNumber
-        → advanceVerdict L ≡ orElse (joinedBad (L .tables) (L .schedule)) scheduleRefused (orElse (stateBad L) stateRefused acceptedNumber)
-    advance-own e =
-        advance-number L ∙ or-else-no shapeRefused _ s ∙ ap (λ (k : ℕ). after k (orElse (joinedBad (L .tables) (L .schedule)) scheduleRefused (orElse (stateBad L) stateRefused acceptedNumber))) e
+    -- a refusal of the tables that every call asks for is the advance's
+    pub judged-given : acceptedNumber < x .number → judgedAnswer L ≡ x
+    judged-given l = judged-next ∙ next-given x (ownAnswer L) (λ z. omega (arith, z, l))
+
+    -- where the tables are not refused, 13 and 21 decide
+    pub judged-own : x .number ≡ acceptedNumber → judgedAnswer L ≡ ownAnswer L
+    judged-own z = judged-next ∙ next-none x (ownAnswer L) z
 
 -- what an advance asks before 13
 abbrev before : List (Refusal Advance)
 before =
-    record { number = shapeRefused; applies = advanceShapeBad }
-    ∷ map (within (λ (L : Advance). L .tables)) (tableRefusals ++ (longRefusal ∷ []))
+    unplaced shapeRefused advanceShapeBad ∷ map (within (λ (L : Advance). L .tables)) (tableRefusals ++ (longRefusal ∷ []))
 
 module _ (L : Advance) (e : advanceVerdict L ≡ acceptedNumber) where
   -- of an advance that runs, everything that is lent has its shape

@@ -1,18 +1,19 @@
-// Numbers 1 to 11, 13 and 21 of an advance: what is asked before anything runs.
+// Numbers 1 to 11, 13 and 21 of an advance, with their places: what is asked before anything runs.
 ghost use mathlib.Core.Path.{_≡_};
 ghost use lib.IntN.{ℤ};
 ghost use Rattle.cells.specs.Limits.{maxCode, wordsEach};
 ghost use Rattle.program.specs.Tables.{tablesIn};
 ghost use Rattle.rules.specs.Shape.{badSlice};
 ghost use Rattle.machine.specs.declared.State.{State};
-ghost use Rattle.machine.specs.Advance.{advanceShapeBad, advanceVerdict};
-ghost use Rattle.operation.specs.Advancing.{lentOf, advancing};
+ghost use Rattle.machine.specs.Advance.{advanceShapeBad};
+ghost use Rattle.operation.specs.Advancing.{lentOf, advancing, judgedAnswer};
 use cells::columns::schedule;
 use cells::limits::Program;
 use cells::refusals;
 use machine::State;
 use rules_1_2::slices;
 use suppliers::joined;
+use theory::Answer;
 use ticking::range;
 
 // The E code is not whole instructions, or has more of them than the limit.
@@ -44,8 +45,8 @@ fn shape_bad(
         | (times.len() != Program::TASKS)
 }
 
-// The first of numbers 1 to 11, 13 and 21 that applies to an advance; 0 where none does.
-pub fn number(
+// The first of numbers 1 to 11, 13 and 21 that applies to an advance, with its place; accepted where none does.
+pub fn answer(
     tables: &[&[i32]; Program::TABLES],
     program: Program,
     code: &[u32],
@@ -54,25 +55,26 @@ pub fn number(
     readings: &[i32],
     results: &[i32],
     times: &[i32],
-) -> usize
+) -> Answer
     ensures { λ r. ⌜ (let X = lentOf (now (readings .entry)) (now (results .entry)) (now (times .entry)) in
         let T = tablesIn (now (tables .entry)) (program .start) in
-        r ≡ advanceVerdict (advancing T (now (code .entry)) (now (schedule .entry)) s X)) ⌝ }
+        r ≡ judgedAnswer (advancing T (now (code .entry)) (now (schedule .entry)) s X)) ⌝ }
 {
     if shape_bad(tables, code, schedule, readings, results, times) {
-        return refusals::SHAPE;
+        return answers::refused(refusals::SHAPE);
     }
-    let number = verdict_2_11::tables_and_code(tables, program);
-    if refusals::ACCEPTED < number {
-        return number;
+    let asked = verdict_2_11::tables_and_code(tables, program);
+    if refusals::ACCEPTED < asked.number {
+        return asked;
     }
-    if joined::refused(tables, schedule) {
-        return refusals::SCHEDULE;
+    let scheduled = joined::answer(tables, schedule);
+    if refusals::ACCEPTED < scheduled.number {
+        return scheduled;
     }
     let instructions = code.len() / Program::WORDS;
     let rows = schedule.len() / schedule::WIDTH;
     if range::out_of_range(instructions, rows, s) {
-        return refusals::STATE;
+        return answers::refused(refusals::STATE);
     }
-    refusals::ACCEPTED
+    answers::accepted()
 }

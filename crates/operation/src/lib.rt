@@ -9,12 +9,13 @@ ghost use Rattle.program.specs.Program.{programOf};
 ghost use Rattle.rules.specs.Shape.{InShape};
 ghost use Rattle.code.specs.Op.{instructions};
 ghost use Rattle.suppliers.specs.Schedule.{Rows};
-ghost use Rattle.machine.specs.Advance.{stateOf, ready, step, answer, freshAnswer, advanceAnswer};
+ghost use Rattle.machine.specs.Advance.{stateOf, ready, step, answer, handed, freshAnswer, advanceAnswer};
 ghost use Rattle.operation.specs.Advancing.{lentOf, advancing};
 use cells::limits::Program;
 use cells::refusals;
 use cells::tables;
 use machine::Advanced;
+use machine::Handed;
 use machine::State;
 use ticking::schedules;
 use ticking::values;
@@ -39,19 +40,19 @@ fn begun(values: [i32; Program::PORTS]) -> State
 }
 
 // The fresh state of an accepted program; all 0 where the program is refused. Any slices at all may be lent.
-pub fn fresh(tables: &[&[i32]; Program::TABLES], program: Program) -> Advanced
+pub fn fresh(tables: &[&[i32]; Program::TABLES], program: Program) -> Handed
     ensures { λ r. ⌜ r ≡ freshAnswer (tablesIn (now (tables .entry)) (program .start)) ⌝ }
 {
-    let number = verdict::program_verdict(tables, program);
-    if refusals::ACCEPTED < number {
+    let answer = verdict::program_verdict(tables, program);
+    if refusals::ACCEPTED < answer.number {
         let nothing = [0; Program::PORTS];
         let state = begun(nothing);
-        return Advanced { number, state };
+        return Handed { answer, state };
     }
     let first = values::first_values(tables[tables::PORTS]);
     let state = begun(first);
-    Advanced {
-        number: refusals::ACCEPTED,
+    Handed {
+        answer: answers::accepted(),
         state,
     }
 }
@@ -86,7 +87,7 @@ fn step(
     readings: &[i32],
     results: &[i32],
     times: &[i32],
-) -> Advanced
+) -> Handed
     requires { ⌜ InShape (now tables) ⌝ }
     requires { ⌜ length (now code) / wordsEach ≤ maxCode ⌝ }
     requires { ⌜ s .current < length (now code) / wordsEach ⌝ }
@@ -94,12 +95,12 @@ fn step(
     ensures { λ r. ⌜ ((start : ℤ) → let X = lentOf (now (readings .entry)) (now (results .entry)) (now (times .entry)) in
         let T = tablesIn (now (tables .entry)) start in
         Rows T (now (schedule .entry))
-        → r ≡ answer s (step (programOf T) (instructions (now (code .entry))) (now (schedule .entry)) X s)) ⌝ }
+        → r ≡ handed (answer s (step (programOf T) (instructions (now (code .entry))) (now (schedule .entry)) X s))) ⌝ }
 {
     let begun = ready(tables, code, readings, times, s);
     if refusals::ACCEPTED < begun.number {
-        return Advanced {
-            number: begun.number,
+        return Handed {
+            answer: answers::refused(begun.number),
             state: s,
         };
     }
@@ -108,12 +109,16 @@ fn step(
     let task_ports = tables[tables::TASK_PORTS];
     let after = schedules::tick_all(ports, task_ports, schedule, results, before);
     if refusals::ACCEPTED < after.number {
-        return Advanced {
-            number: after.number,
+        return Handed {
+            answer: answers::refused(after.number),
             state: s,
         };
     }
-    after
+    let state = after.state;
+    Handed {
+        answer: answers::accepted(),
+        state,
+    }
 }
 
 // An advance of the machine by one tick. Any slices, any words and any state at all may be lent.
@@ -126,14 +131,14 @@ pub fn advance(
     readings: &[i32],
     results: &[i32],
     times: &[i32],
-) -> Advanced
+) -> Handed
     ensures { λ r. ⌜ (let X = lentOf (now (readings .entry)) (now (results .entry)) (now (times .entry)) in
         let T = tablesIn (now (tables .entry)) (program .start) in
         r ≡ advanceAnswer (advancing T (now (code .entry)) (now (schedule .entry)) s X)) ⌝ }
 {
-    let number = judged::number(tables, program, code, schedule, s, readings, results, times);
-    if refusals::ACCEPTED < number {
-        return Advanced { number, state: s };
+    let answer = judged::answer(tables, program, code, schedule, s, readings, results, times);
+    if refusals::ACCEPTED < answer.number {
+        return Handed { answer, state: s };
     }
     step(tables, code, schedule, s, readings, results, times)
 }

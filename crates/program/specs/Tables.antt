@@ -72,6 +72,19 @@ updatesAt = 8
 abbrev pub switchesAt : ℕ
 switchesAt = 9
 
+-- the numbers of what is lent beside the tables, as a place names it: windows, schedule; the start mode; the supplier asked about
+abbrev pub windowsAt : ℕ
+windowsAt = 10
+
+abbrev pub scheduleAt : ℕ
+scheduleAt = 11
+
+abbrev pub startAt : ℕ
+startAt = 12
+
+abbrev pub supplierAt : ℕ
+supplierAt = 13
+
 -- a table without numbers, which stands past the last table
 abbrev pub noTable : RefT (List ℤ)
 noTable = record { ptr = (0, 0); name = 0; now = [] }

@@ -2,10 +2,11 @@
 use Prim.Native.Nat.{ℕ, suc, _-_, _≤_, _<_}
 use mathlib.Core.Path.{_≡_, refl, sym, ap, _∙_}
 use native.Mathlib.Omega.{arith}
+use Rattle.theory.specs.Rows.{placeless}
 use Rattle.theory.specs.Verdict.{acceptedNumber}
+use Rattle.theory.specs.declared.Answer.{Answer}
 use Rattle.runs.specs.Round.{Break, none, outside, late}
-use Rattle.suppliers.specs.declared.Answer.{Answer}
-use Rattle.suppliers.specs.Supplier.{breakNumber, breakTick, answerOf, answerFrom}
+use Rattle.suppliers.specs.Supplier.{breakNumber, breakTick, atTick, answerOf, answerFrom}
 
 module _ (breaks : ℕ → Break) (n : ℕ) where
   -- after m modes of n none broke: the modes from m on answer for all
@@ -40,16 +41,15 @@ module _ (breaks : ℕ → Break) (n : ℕ) where
 
     -- a mode that breaks gives the answer
     pub answering-found : {tick own : ℕ} → tick ≡ breakTick (breaks m) → own ≡ m → acceptedNumber < number
-        → _≡_ {A = Answer} (record { number = number; mode = own; tick = tick }) (answerFrom breaks n 0)
-    answering-found {tick} {own} r f z = (λ j. record { number = number; mode = f j; tick = tick }) ∙ go (breaks m) q r ∙ sym (rest m l) ∙ h .same
+        → atTick number own tick ≡ answerFrom breaks n 0
+    answering-found {tick} {own} r f z = (λ j. atTick number (f j) tick) ∙ go (breaks m) q r ∙ sym (rest m l) ∙ h .same
       where
         go : (b : Break) → number ≡ breakNumber b → tick ≡ breakTick b
-            → _≡_ {A = Answer} (record { number = number; mode = m; tick = tick }) (this (n - suc m) m b)
+            → atTick number m tick ≡ this (n - suc m) m b
         go none e f = absurd (omega arith)
-        go (outside t) e f = λ j. record { number = e j; mode = m; tick = f j }
-        go (late t) e f = λ j. record { number = e j; mode = m; tick = f j }
+        go (outside t) e f = λ j. atTick (e j) m (f j)
+        go (late t) e f = λ j. atTick (e j) m (f j)
 
   -- after the last mode the answer is 0, without a place
-  pub answering-all : (m : ℕ) → n ≤ m → Answering m
-      → _≡_ {A = Answer} (record { number = acceptedNumber; mode = 0; tick = 0 }) (answerFrom breaks n 0)
+  pub answering-all : (m : ℕ) → n ≤ m → Answering m → placeless acceptedNumber ≡ answerFrom breaks n 0
   answering-all m l h = let z : n - m ≡ 0 = omega arith in sym (ap (λ (k : ℕ). answerFrom breaks k m) z) ∙ h .same

@@ -23,7 +23,7 @@ use cells::modes;
 use cells::refusals;
 use cells::tables;
 use program::multiples;
-use suppliers::Answer;
+use theory::Answer;
 
 // The round of mode m, whose first block stands at address `first`, and no row of its blocks before row `from` of the part.
 fn one_mode(
@@ -68,7 +68,7 @@ fn one_mode(
     )
 }
 
-// The answer on all modes, reached or not: 14 or 15 with mode and tick of the first break, or 0, 0 and 0.
+// The answer on all modes, reached or not: 14 or 15 with mode and tick of the first break, or accepted.
 pub fn answer(
     tables: &[&[i32]; Program::TABLES],
     windows: &[i32],
@@ -94,17 +94,13 @@ pub fn answer(
             let mode = m.word() as usize;
             return Answer {
                 number: run.number,
-                mode: mode,
-                tick: run.tick,
+                outer: mode,
+                inner: run.tick,
             };
         }
         at = run.at;
         row = run.row;
         m = m.next();
     }
-    Answer {
-        number: refusals::ACCEPTED,
-        mode: 0,
-        tick: 0,
-    }
+    answers::accepted()
 }

@@ -7,7 +7,7 @@ use mathlib.Core.List.{List, _∷_, _++_, map}
 use native.Mathlib.Nat.{div-le-self}
 use native.Mathlib.Omega.{arith}
 use Rattle.theory.specs.Lists.{member}
-use Rattle.theory.specs.Verdict.{acceptedNumber, Refusal, within, verdict}
+use Rattle.theory.specs.Verdict.{acceptedNumber, Refusal, unplaced, within, verdict}
 use Rattle.theory.proofs.Members.{member-says}
 use Rattle.theory.proofs.Verdict.{Clear, verdict-clear, clear-verdict, verdict-both}
 use Rattle.cells.specs.Limits.{maxPeriod, maxUnits}
@@ -97,13 +97,13 @@ module _ (T : Tables) (a : programVerdict T ≡ acceptedNumber) where
 -- verdict does, is not refused
 pub lent-accepted : {A : Type 0} (tables : A → Tables) (shape : A → Bool) (more : List (Refusal A)) (x : A)
     → (shape x ≡ false → shapeBad (tables x) ≡ false)
-    → verdict ((record { number = shapeRefused; applies = shape } ∷ map (within tables) tableRefusals) ++ more) x ≡ acceptedNumber
+    → verdict ((unplaced shapeRefused shape ∷ map (within tables) tableRefusals) ++ more) x ≡ acceptedNumber
     → programVerdict (tables x) ≡ acceptedNumber
 unfolding programVerdict
 lent-accepted {A} tables shape more x s e = clear-verdict (shapeRefusal ∷ tableRefusals) (tables x) (s (clear .0), clear .1)
   where
     own : List (Refusal A)
-    own = record { number = shapeRefused; applies = shape } ∷ map (within tables) tableRefusals
+    own = unplaced shapeRefused shape ∷ map (within tables) tableRefusals
 
     clear : Clear own x
     clear = verdict-clear own x (omega arith) (verdict-both own more x (omega arith) e .0)

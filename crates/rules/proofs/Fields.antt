@@ -1,17 +1,20 @@
 -- Number 2: each row's test bars what the row must be.
 use Prim.Native.Nat.{ℕ}
+use mathlib.Core.Path.{refl}
 use mathlib.Core.Logic.{_⊎_}
+use native.Mathlib.Omega.{arith}
 use Rattle.theory.specs.Claim.{Says, Bars}
-use Rattle.theory.proofs.Bools.{says-or, says-as, says-lt, says-le, says-eq, bars-not, bars-as, _or_, _and_, says-implies, bars-lt, bars-le}
-use Rattle.theory.proofs.Search.{bars-any}
+use Rattle.theory.proofs.Bools.{says-or, says-as, says-lt, says-le, says-eq, bars-not, bars-as, _and_, says-implies, bars-lt, bars-le}
+use Rattle.theory.proofs.Rows.{RowsJoined, one-table}
+use Rattle.theory.proofs.Verdict.{Rowed, bars-rows}
 use Rattle.theory.proofs.Order.{leZ-says}
 use Rattle.cells.proofs.Ints.{eqZ-says}
 use Rattle.readings.proofs.Readings.{missing-says, value-says}
-use Rattle.program.specs.Tables.{Tables, portKind, output, guardLow, guardHigh, modeCount, startMode}
+use Rattle.program.specs.Tables.{Tables, portKind, output, guardLow, guardHigh, modeCount, startMode, startAt}
 use Rattle.rules.specs.Fields.{inRange, InRange, portBad, taskBad, TaskFits, taskPortBad, TaskPortFits, alwaysFits, AlwaysFits}
 use Rattle.rules.specs.Fields.{intervalFits, IntervalFits, driverBad, copyBad, CopyFits, modeBad, modePortBad, ModePortFits}
-use Rattle.rules.specs.Fields.{invocationBad, InvocationFits, updateBad, UpdateFits, switchBad, SwitchFits, startBad, fieldsBad}
-use Rattle.rules.specs.Fields.{Fields}
+use Rattle.rules.specs.Fields.{invocationBad, InvocationFits, updateBad, UpdateFits, switchBad, SwitchFits, startBad, fieldTests}
+use Rattle.rules.specs.Fields.{fieldsBad, Fields, fieldRules}
 
 -- the test of a range says that the number is in it
 pub range-says : (n limit : ℕ) → Says (inRange n limit) (InRange n limit)
@@ -90,23 +93,79 @@ module _ (T : Tables) where
       (λ (((m, f), t), d). record { mode = m; frequency = f; target = t; driver = d })
       (λ f. (((f .mode, f .frequency), f .target), f .driver))
 
+  -- number 2 and rule 2 speak of the same rows
+  pub fields-rowed : Rowed (fieldsBad T) (fieldTests T) (fieldRules T)
+  unfolding fieldsBad portBad modeBad startBad
+  fields-rowed = (joined, refl)
+    where
+      joined : RowsJoined (fieldTests T) (fieldRules T)
+      joined = (
+        refl,
+        refl,
+        λ p h w. bars-lt output (portKind T p),
+        omega arith,
+        (
+          refl,
+          refl,
+          λ t h w. task-bars t,
+          omega arith,
+          (
+            refl,
+            refl,
+            λ k h w. task-port-bars k,
+            omega arith,
+            (
+              refl,
+              refl,
+              λ d h w. driver-bars d,
+              omega arith,
+              (
+                refl,
+                refl,
+                λ c h w. copy-bars c,
+                omega arith,
+                (
+                  refl,
+                  refl,
+                  λ m h w. bars-not (range-says _ _),
+                  omega arith,
+                  (
+                    refl,
+                    refl,
+                    λ k h w. mode-port-bars k,
+                    omega arith,
+                    (
+                      refl,
+                      refl,
+                      λ i h w. invocation-bars i,
+                      omega arith,
+                      (
+                        refl,
+                        refl,
+                        λ i h w. update-bars i,
+                        omega arith,
+                        (
+                          refl,
+                          refl,
+                          λ i h w. switch-bars i,
+                          omega arith,
+                          one-table startAt (λ r h w. bars-le (modeCount T) (startMode T)),
+                        ),
+                      ),
+                    ),
+                  ),
+                ),
+              ),
+            ),
+          ),
+        ),
+      )
+
   -- number 2 bars fields and a start mode that are in range and name something
   pub fields-bar : Bars (fieldsBad T) (Fields T)
-  unfolding fieldsBad portBad modeBad startBad
   fields-bar =
-      bars-as
-      (bars-any _ _ (λ p. bars-lt output (portKind T p)) _
-      or bars-any _ _ task-bars _
-      or bars-any _ _ task-port-bars _
-      or bars-any _ _ driver-bars _
-      or bars-any _ _ copy-bars _
-      or bars-any _ _ (λ m. bars-not (range-says _ _)) _
-      or bars-any _ _ mode-port-bars _
-      or bars-any _ _ invocation-bars _
-      or bars-any _ _ update-bars _
-      or bars-any _ _ switch-bars _
-      or bars-le (modeCount T) (startMode T))
-      (λ ((((((((((p, t), tp), d), c), m), mp), i), u), w), s).
+      bars-rows (fieldTests T) (fieldRules T) fields-rowed
+      (λ (p, (t, (tp, (d, (c, (m, (mp, (i, (u, (w, (s, _))))))))))).
       record {
         ports = p;
         tasks = t;
@@ -118,7 +177,36 @@ module _ (T : Tables) where
         invocations = i;
         updates = u;
         switches = w;
-        start = s;
+        start = s 0 (omega arith);
       })
-      (λ f.
-      ((((((((((f .ports, f .tasks), f .task-ports), f .drivers), f .copies), f .modes), f .mode-ports), f .invocations), f .updates), f .switches), f .start))
+      (λ f. (
+        f .ports,
+        (
+          f .tasks,
+          (
+            f .task-ports,
+            (
+              f .drivers,
+              (
+                f .copies,
+                (
+                  f .modes,
+                  (
+                    f .mode-ports,
+                    (
+                      f .invocations,
+                      (
+                        f .updates,
+                        (
+                          f .switches,
+                          (λ r h. f .start, tt),
+                        ),
+                      ),
+                    ),
+                  ),
+                ),
+              ),
+            ),
+          ),
+        ),
+      ))

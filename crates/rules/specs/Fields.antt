@@ -7,11 +7,14 @@ use mathlib.Core.Logic.{_⊎_}
 use lib.Dec.{eqb, ltb, leb}
 use lib.IntN.{pos}
 use lib.Signed.{leZ}
-use Rattle.theory.specs.Search.{any}
+use mathlib.Core.List.{List, [], _∷_}
+use Rattle.theory.specs.Rows.{RowTests, testing, someBad, RowRules, asking}
 use Rattle.theory.specs.Order.{_≤Z_}
 use Rattle.cells.specs.Cell.{eqZ}
 use Rattle.readings.specs.Reading.{isMissing, noReading, Value, isValue}
 use Rattle.cells.specs.Limits.{suppliers, maxWorst, maxPeriod, maxFrequency}
+use Rattle.program.specs.Tables.{portsAt, tasksAt, taskPortsAt, driversAt, copiesAt, modesAt, modePortsAt, invocationsAt, updatesAt}
+use Rattle.program.specs.Tables.{switchesAt, startAt}
 use Rattle.program.specs.Tables.{Tables, portCount, portKind, output, taskCount, taskSupplier, taskWorst, taskPortCount, taskPortTask}
 use Rattle.program.specs.Tables.{taskPortPort}
 use Rattle.program.specs.Tables.{driverCount, guardKind, guardPort, guardLow, guardHigh, kindAlways, kindInterval, copyCount, copyDriver}
@@ -159,20 +162,25 @@ pub record SwitchFits (T : Tables) (i : ℕ) : Type 0 where
 unfoldable pub startBad : Tables → Bool
 startBad T = leb (modeCount T) (startMode T)
 
+-- number 2, row by row: the tables in order, and after all of them the start mode, which is row 0 of its place
+abbrev pub fieldTests : Tables → List RowTests
+fieldTests T =
+    testing portsAt (portCount T) (portBad T)
+    ∷ testing tasksAt (taskCount T) (taskBad T)
+    ∷ testing taskPortsAt (taskPortCount T) (taskPortBad T)
+    ∷ testing driversAt (driverCount T) (driverBad T)
+    ∷ testing copiesAt (copyCount T) (copyBad T)
+    ∷ testing modesAt (modeCount T) (modeBad T)
+    ∷ testing modePortsAt (modePortCount T) (modePortBad T)
+    ∷ testing invocationsAt (invocationCount T) (invocationBad T)
+    ∷ testing updatesAt (updateCount T) (updateBad T)
+    ∷ testing switchesAt (switchCount T) (switchBad T)
+    ∷ testing startAt 1 (λ r. startBad T)
+    ∷ []
+
 -- number 2: some row of a table is bad, or the start mode is not declared
 unfoldable pub fieldsBad : Tables → Bool
-fieldsBad T =
-    any (portBad T) (portCount T)
-    || any (taskBad T) (taskCount T)
-    || any (taskPortBad T) (taskPortCount T)
-    || any (driverBad T) (driverCount T)
-    || any (copyBad T) (copyCount T)
-    || any (modeBad T) (modeCount T)
-    || any (modePortBad T) (modePortCount T)
-    || any (invocationBad T) (invocationCount T)
-    || any (updateBad T) (updateCount T)
-    || any (switchBad T) (switchCount T)
-    || startBad T
+fieldsBad T = someBad (fieldTests T)
 
 -- rule 2: every row of every table is in range and names what is declared, and so does the start mode
 pub record Fields (T : Tables) : Type 0 where
@@ -187,3 +195,19 @@ pub record Fields (T : Tables) : Type 0 where
   pub updates : (i : ℕ) → i < updateCount T → UpdateFits T i
   pub switches : (i : ℕ) → i < switchCount T → SwitchFits T i
   pub start : startMode T < modeCount T
+
+-- rule 2, row by row
+abbrev pub fieldRules : Tables → List RowRules
+fieldRules T =
+    asking portsAt (portCount T) (λ p. portKind T p ≤ output)
+    ∷ asking tasksAt (taskCount T) (TaskFits T)
+    ∷ asking taskPortsAt (taskPortCount T) (TaskPortFits T)
+    ∷ asking driversAt (driverCount T) (λ d. AlwaysFits T d ⊎ IntervalFits T d)
+    ∷ asking copiesAt (copyCount T) (CopyFits T)
+    ∷ asking modesAt (modeCount T) (λ m. InRange (modePeriod T m) maxPeriod)
+    ∷ asking modePortsAt (modePortCount T) (ModePortFits T)
+    ∷ asking invocationsAt (invocationCount T) (InvocationFits T)
+    ∷ asking updatesAt (updateCount T) (UpdateFits T)
+    ∷ asking switchesAt (switchCount T) (SwitchFits T)
+    ∷ asking startAt 1 (λ r. startMode T < modeCount T)
+    ∷ []

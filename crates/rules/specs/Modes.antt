@@ -3,16 +3,18 @@
 use Prim.Native.Nat.{ℕ, _<_}
 use mathlib.Core.Path.{_≡_}
 use mathlib.Core.Bool.{Bool, not, _&&_, _||_}
+use mathlib.Core.List.{List, [], _∷_}
 use mathlib.Core.Logic.{_⊎_, _↔_}
 use lib.Dec.{eqb}
 use Rattle.theory.specs.Search.{any}
+use Rattle.theory.specs.Rows.{RowTests, testing, someBad, RowRules, asking}
 use Rattle.program.specs.Tables.{Tables, sensor, actuator, input, output, taskPortCount, taskPortTask, taskPortPort, guardKind, guardPort}
 use Rattle.program.specs.Tables.{kindAlways}
 use Rattle.program.specs.Tables.{kindInterval, copyCount, copyDriver, copySource, copyDestination, modePortCount, modePortMode}
 use Rattle.program.specs.Tables.{modePortPort}
 use Rattle.program.specs.Tables.{invocationCount, invocationMode, invocationTask, invocationDriver, updateCount, updateMode, updateDriver}
 use Rattle.program.specs.Tables.{switchCount, switchMode}
-use Rattle.program.specs.Tables.{switchTarget, switchDriver}
+use Rattle.program.specs.Tables.{switchTarget, switchDriver, invocationsAt, updatesAt, switchesAt}
 use Rattle.program.specs.Guard.{guardOf, meet, Meet}
 use Rattle.program.specs.Sets.{isKind, isInput, isOutput, isModePort, isDestination, Sensor, Actuator, Input, Output, ModePort, Source}
 use Rattle.program.specs.Sets.{Destination}
@@ -82,9 +84,13 @@ invocationWrong T i =
     || not (eqb (guardKind T (invocationDriver T i)) kindAlways)
     || any (invocationClash T i) i
 
+-- number 6, row by row: the invocation is named, wherever the fault lies
+abbrev pub invocationTests : Tables → List RowTests
+invocationTests T = testing invocationsAt (invocationCount T) (invocationWrong T) ∷ []
+
 -- number 6: some invocation row breaks 001's condition on task invocations
 unfoldable pub invocationsBad : Tables → Bool
-invocationsBad T = any (invocationWrong T) (invocationCount T)
+invocationsBad T = someBad (invocationTests T)
 
 -- what 001 asks of invocation row i by itself
 pub record Invokes (T : Tables) (i : ℕ) : Type 0 where
@@ -105,6 +111,17 @@ pub record Invocations (T : Tables) : Type 0 where
   pub outputs-apart : (i j p : ℕ) → j < i → i < invocationCount T → invocationMode T j ≡ invocationMode T i
       → Output T (invocationTask T i) p → Output T (invocationTask T j) p → ⊥
 
+-- what rule 6 asks of invocation row i, by itself and against the rows before it
+pub record InvocationRow (T : Tables) (i : ℕ) : Type 0 where
+  pub itself : Invokes T i
+  pub task-apart : (j : ℕ) → j < i → invocationMode T j ≡ invocationMode T i → invocationTask T j ≡ invocationTask T i → ⊥
+  pub outputs-apart : (j p : ℕ) → j < i → invocationMode T j ≡ invocationMode T i
+      → Output T (invocationTask T i) p → Output T (invocationTask T j) p → ⊥
+
+-- rule 6, row by row
+abbrev pub invocationRules : Tables → List RowRules
+invocationRules T = asking invocationsAt (invocationCount T) (InvocationRow T) ∷ []
+
 -- 7: update rows i and j are of one mode and share a destination
 unfoldable pub updateClash : Tables → ℕ → ℕ → Bool
 updateClash T i j =
@@ -118,9 +135,13 @@ updateWrong T i =
     || someDestination T (λ p. not (isKind T actuator p)) (updateDriver T i)
     || any (updateClash T i) i
 
+-- number 7, row by row
+abbrev pub updateTests : Tables → List RowTests
+updateTests T = testing updatesAt (updateCount T) (updateWrong T) ∷ []
+
 -- number 7: some update row breaks 001's condition on actuator updates
 unfoldable pub updatesBad : Tables → Bool
-updatesBad T = any (updateWrong T) (updateCount T)
+updatesBad T = someBad (updateTests T)
 
 -- rule 7: 001's condition on actuator updates
 pub record Updates (T : Tables) : Type 0 where
@@ -130,6 +151,17 @@ pub record Updates (T : Tables) : Type 0 where
   -- two updates of one mode share no destination: Dst[d] ∩ Dst[d′] = ∅
   pub apart : (i j p : ℕ) → j < i → i < updateCount T → updateMode T j ≡ updateMode T i
       → Destination T (updateDriver T i) p → Destination T (updateDriver T j) p → ⊥
+
+-- what rule 7 asks of update row i, by itself and against the rows before it
+pub record UpdateRow (T : Tables) (i : ℕ) : Type 0 where
+  pub sources : (p : ℕ) → Source T (updateDriver T i) p → ModePort T (updateMode T i) p
+  pub destinations : (p : ℕ) → Destination T (updateDriver T i) p → Actuator T p
+  pub apart : (j p : ℕ) → j < i → updateMode T j ≡ updateMode T i
+      → Destination T (updateDriver T i) p → Destination T (updateDriver T j) p → ⊥
+
+-- rule 7, row by row
+abbrev pub updateRules : Tables → List RowRules
+updateRules T = asking updatesAt (updateCount T) (UpdateRow T) ∷ []
 
 -- 8: switch rows i and j are of one mode, and their guards can hold for one valuation
 unfoldable pub switchClash : Tables → ℕ → ℕ → Bool
@@ -144,9 +176,13 @@ switchWrong T i =
     || somePort T (λ p. not (isDestination T (switchDriver T i) p)) (switchTarget T i)
     || any (switchClash T i) i
 
+-- number 8, row by row
+abbrev pub switchTests : Tables → List RowTests
+switchTests T = testing switchesAt (switchCount T) (switchWrong T) ∷ []
+
 -- number 8: some switch row breaks 001's condition on mode switches
 unfoldable pub switchesBad : Tables → Bool
-switchesBad T = any (switchWrong T) (switchCount T)
+switchesBad T = someBad (switchTests T)
 
 -- rule 8: 001's condition on mode switches
 pub record Switches (T : Tables) : Type 0 where
@@ -157,3 +193,13 @@ pub record Switches (T : Tables) : Type 0 where
   -- of two switches of one mode, for all valuations, g[d] or g[d′] is false
   pub apart : (i j : ℕ) → j < i → i < switchCount T → switchMode T j ≡ switchMode T i
       → Meet (guardOf T (switchDriver T j)) (guardOf T (switchDriver T i)) → ⊥
+
+-- what rule 8 asks of switch row i, by itself and against the rows before it
+pub record SwitchRow (T : Tables) (i : ℕ) : Type 0 where
+  pub sources : (p : ℕ) → Source T (switchDriver T i) p → ModePort T (switchMode T i) p ⊎ Sensor T p
+  pub destinations : (p : ℕ) → Destination T (switchDriver T i) p ↔ ModePort T (switchTarget T i) p
+  pub apart : (j : ℕ) → j < i → switchMode T j ≡ switchMode T i → Meet (guardOf T (switchDriver T j)) (guardOf T (switchDriver T i)) → ⊥
+
+-- rule 8, row by row
+abbrev pub switchRules : Tables → List RowRules
+switchRules T = asking switchesAt (switchCount T) (SwitchRow T) ∷ []

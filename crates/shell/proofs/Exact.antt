@@ -10,9 +10,10 @@ use borrow.Author.Tests.{le-ltb}
 use lib.ListN.{length, drop, getD, replicate, length-replicate}
 use Rattle.text.specs.Decimal.{newline}
 use Rattle.text.specs.Part.{capped, partAfter, signedOf}
+use Rattle.theory.specs.Rows.{placeless}
 use Rattle.cells.specs.Refusals.{shapeRefused}
 use Rattle.text.specs.Line.{room}
-use Rattle.text.specs.Shipped.{badInput, verdictLine, printed, shipped}
+use Rattle.text.specs.Shipped.{badInput, answerLine, printed, shipped}
 use Rattle.intake.specs.Change.{startIntake}
 use Rattle.intake.specs.Shapes.{wholeRoom, shapeAt}
 use Rattle.intake.specs.Line.{Fed, fed, isDecided, isComplete, countedOf, tookOf}
@@ -99,7 +100,7 @@ fails-plainly B ps e =
 
 -- a text that reads on may still be bad, so its answer is not 1 whatever follows
 pub stops-at-once : StopsAtOnce
-unfolding shipped
+unfolding shipped answerLine
 stops-at-once B ps all = go (heardBy B (pieces ps) .more) refl
   where
     f : Fed
@@ -160,6 +161,6 @@ unfolding tooManyPorts zeros afterRead fedOf lineEnd tookOf countedOf shapeAt is
 stops-there = refl
 
 -- the answer to a text with too many ports is 1 whatever follows
-one-there : (more : List ℕ) → shipped (piecesText tooManyPorts ++ more) ≡ verdictLine shapeRefused
+one-there : (more : List ℕ) → shipped (piecesText tooManyPorts ++ more) ≡ answerLine (placeless shapeRefused)
 unfolding tooManyPorts zeros afterRead fedOf lineEnd tookOf countedOf shapeAt isDecided isComplete heard signedOf partAfter capped shipped
 one-there more = ap printed (sym (reads-exactly emptyRoom (zeros .roomy) (piecesText tooManyPorts ++ more)) ∙ sym (stopped-heard (fed startIntake emptyRoom) tooManyPorts more stops-there))

@@ -8,9 +8,10 @@ use mathlib.Core.List.{List, [], _∷_, _++_, map}
 use lib.IntN.{ℤ, pos, negsuc}
 use lib.ListN.{length, take}
 use Rattle.theory.specs.Lists.{Every}
+use Rattle.theory.specs.Rows.{placeless}
 use Rattle.cells.specs.Refusals.{shapeRefused}
 use Rattle.text.specs.Line.{room}
-use Rattle.text.specs.Shipped.{badInput, verdictLine, printed, shipped}
+use Rattle.text.specs.Shipped.{badInput, answerLine, printed, shipped}
 use Rattle.intake.specs.Heard.{heard}
 use Rattle.intake.specs.Exact.{Roomy}
 use Rattle.answering.specs.Answer.{Answered}
@@ -101,5 +102,5 @@ StopsDecided =
 -- "1 at once": once the answer is 1 whatever follows, no read is asked for
 abbrev pub StopsAtOnce : Type 0
 StopsAtOnce =
-    (B : Buffers) (ps : List (List ℕ)) → ((more : List ℕ) → shipped (piecesText ps ++ more) ≡ verdictLine shapeRefused)
+    (B : Buffers) (ps : List (List ℕ)) → ((more : List ℕ) → shipped (piecesText ps ++ more) ≡ answerLine (placeless shapeRefused))
     → heardBy B (pieces ps) .more ≡ false

@@ -1,17 +1,19 @@
 -- What has its shape; a supplier's part that is not refused by 1 to 13: the program is accepted, and every task of it that is released
--- is declared and takes time. Assumes that the verdict on the part is 0; of `windows-accepted` and `part-after`, that the windows
+-- is declared and takes time. Assumes that the verdict on the part is 0; of `windows-accepted` and `part-..-after`, that the windows
 -- verdict is; of `own-declared` and `owner-declared`, that the program is accepted; of what has its shape, that number 1 does not apply.
 use Prim.Native.Nat.{ℕ, _<_}
-use mathlib.Core.Path.{_≡_, sym, ap, subst, _∙_}
-use mathlib.Core.Bool.{Bool, true, false, _&&_, _||_}
+use mathlib.Core.Path.{_≡_, refl, sym, ap, subst, _∙_}
+use mathlib.Core.Bool.{Bool, true, false, _&&_, _||_, cond}
 use mathlib.Core.List.{List, [], _∷_, _++_, map}
 use native.Mathlib.Omega.{arith}
 use lib.Dec.{eqb}
 use borrow.Author.Tests.{eq-eqb}
 use Rattle.theory.specs.Lists.{member}
-use Rattle.theory.specs.Verdict.{acceptedNumber, Refusal, orElse, within}
+use Rattle.theory.specs.Rows.{placeless}
+use Rattle.theory.specs.Verdict.{acceptedNumber, Refusal, orElse, within, firstRefusal, orNext, rowsAnswer}
+use Rattle.theory.specs.declared.Answer.{Answer}
 use Rattle.theory.proofs.Bools.{neither, says-itself, _and_}
-use Rattle.theory.proofs.Verdict.{verdict-clear, verdict-skip}
+use Rattle.theory.proofs.Verdict.{verdict-clear, verdict-skip, answer-append, clear-answer, one-answer}
 use Rattle.theory.proofs.Members.{member-keep}
 use Rattle.cells.specs.Limits.{suppliers, maxWindows, maxPart}
 use Rattle.cells.specs.Refusals.{shapeRefused, windowsRefused, scheduleRefused}
@@ -25,9 +27,10 @@ use Rattle.code.specs.Compile.{longRefusal}
 use Rattle.runs.specs.Windows.{windowWidth}
 use Rattle.runs.specs.Schedule.{scheduleWidth}
 use Rattle.runs.proofs.Exactly.{SomeTime}
-use Rattle.suppliers.specs.Windows.{Windowed, windowsBad, windowsShapeBad, windowRowsRefusals, windowsVerdictRefusals, windowsVerdict}
-use Rattle.suppliers.specs.Schedule.{partBad}
-use Rattle.suppliers.specs.Supplier.{Asked, supplierOf, ownTasks, courseOf, partShapeBad, windowedOf, ownRefusals, partVerdict}
+use Rattle.suppliers.specs.Windows.{Windowed, windowTests, windowsBad, windowsShapeBad, windowRowsRefusals, windowsVerdictRefusals}
+use Rattle.suppliers.specs.Windows.{windowsVerdict}
+use Rattle.suppliers.specs.Schedule.{partTests, partBad}
+use Rattle.suppliers.specs.Supplier.{Asked, supplierOf, ownTasks, courseOf, partShapeBad, windowedOf, ownRefusals, partVerdict, partAnswer}
 
 -- tables and windows that number 1 passes have their shape; so has a part
 pub windows-shaped : (L : Windowed) → windowsShapeBad L ≡ false → shapeBad (L .tables) ≡ false
@@ -48,7 +51,15 @@ windows-accepted L e =
 abbrev between : List (Refusal Asked)
 between =
     map (within (λ (L : Asked). L .tables)) (tableRefusals ++ (longRefusal ∷ []))
-    ++ (record { number = windowsRefused; applies = λ L. windowsBad (windowedOf L) } ∷ [])
+    ++ (record { number = windowsRefused; applies = λ L. windowsBad (windowedOf L); rows = λ L. windowTests (windowedOf L) } ∷ [])
+
+-- number 13 of a part
+abbrev own : Refusal Asked
+own = record {
+  number = scheduleRefused;
+  applies = λ L. partBad (L .tables) (L .part) (supplierOf L);
+  rows = λ L. partTests (L .tables) (L .part) (supplierOf L);
+}
 
 -- where the windows verdict is 0, the verdict on a part asks only for the part's shape and number 13
 pub part-after : (L : Asked) → windowsVerdict (windowedOf L) ≡ acceptedNumber
@@ -58,9 +69,21 @@ pub part-after : (L : Asked) → windowsVerdict (windowedOf L) ≡ acceptedNumbe
 unfolding partVerdict windowsVerdict partShapeBad windowsShapeBad
 part-after L e =
     let c = verdict-clear windowsVerdictRefusals (windowedOf L) (omega arith) e in
-    λ i. orElse (c .0 i || badSlice scheduleWidth maxPart (L .part)) 1
-    (verdict-skip between (record { number = scheduleRefused; applies = λ L. partBad (L .tables) (L .part) (supplierOf L) } ∷ [])
-    L (c .1) i)
+    λ i. orElse (c .0 i || badSlice scheduleWidth maxPart (L .part)) 1 (verdict-skip between (own ∷ []) L (c .1) i)
+
+-- where the windows verdict is 0, the answer on a part is that of its shape, or what its rows give for number 13
+pub part-answer-after : (L : Asked) → windowsVerdict (windowedOf L) ≡ acceptedNumber
+    → partAnswer L
+    ≡ cond (badSlice scheduleWidth maxPart (L .part)) (placeless shapeRefused)
+    (rowsAnswer scheduleRefused (partTests (L .tables) (L .part) (supplierOf L)))
+unfolding partAnswer windowsVerdict partShapeBad windowsShapeBad partBad
+part-answer-after L e =
+    let c = verdict-clear windowsVerdictRefusals (windowedOf L) (omega arith) e in
+    let rest : firstRefusal (between ++ (own ∷ [])) L ≡ rowsAnswer scheduleRefused (partTests (L .tables) (L .part) (supplierOf L)) =
+    answer-append between (own ∷ []) L (omega arith)
+    ∙ ap (λ (x : Answer). orNext x (firstRefusal (own ∷ []) L)) (clear-answer between L (c .1))
+    ∙ one-answer own L refl in
+    λ i. cond (c .0 i || badSlice scheduleWidth maxPart (L .part)) (placeless shapeRefused) (rest i)
 
 -- of a supplier's own tasks among some, a task of it is one exactly where it is among them
 pub own-member : (P : Program) (j t : ℕ) (ts : List ℕ) → task P t .supplier ≡ j → member t (ownTasks P j ts) ≡ member t ts

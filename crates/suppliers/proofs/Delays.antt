@@ -1,18 +1,17 @@
 -- The table of delays that is counted from a program's tables says what the schedule rows are held against: whether a `future` stands
--- at an address, and whether a timeout is within its delay; so rows are refused by the table exactly as by the listing.
+-- at an address, and whether a timeout is within its delay; so rows are tested by the table as by the listing.
 -- Assumes that the program is accepted and that number 11 passes it.
 use Prim.Native.Nat.{ℕ, _-_, _≤_}
 use mathlib.Core.Path.{_≡_, refl, sym, ap, subst, _∙_}
 use mathlib.Core.Bool.{Bool, not, _&&_, _||_}
 use mathlib.Core.List.{List}
 use mathlib.Core.Option.{Option, none, some}
-use lib.Dec.{eqb, ltb, leb}
+use lib.Dec.{ltb, leb}
 use lib.IntN.{ℤ}
 use lib.ListN.{length, replicate}
 use borrow.Author.Tests.{lt-ltb}
-use Rattle.theory.specs.Search.{any}
 use Rattle.theory.specs.Verdict.{acceptedNumber}
-use Rattle.cells.specs.Limits.{suppliers, maxPart, maxCode}
+use Rattle.cells.specs.Limits.{suppliers, maxCode}
 use Rattle.program.specs.Tables.{Tables}
 use Rattle.program.proofs.Decoded.{sensors-rows}
 use Rattle.rules.specs.Verdict.{programVerdict}
@@ -20,10 +19,10 @@ use Rattle.code.specs.Compile.{listingOf, CodeFits, delayAt}
 use Rattle.layout.specs.Delays.{delayNumber, marked}
 use Rattle.layout.proofs.Delay.{table-exact, delay-in-range}
 use Rattle.layout.proofs.Marks.{listing-marked}
-use Rattle.runs.specs.Schedule.{scheduleCount, rowSupplier, rowAddress, rowTimeout}
-use Rattle.suppliers.specs.Schedule.{inDelay, delayFits, Tabled, dispatchFits, idleFits, precedes, rowWrong, rowsBad, partBad}
-use Rattle.suppliers.specs.Schedule.{rowCount, joinedBad}
-use Rattle.suppliers.specs.Delays.{countedDelays, rowWrongBy, partBadBy, joinedBadBy}
+use Rattle.runs.specs.Schedule.{rowSupplier, rowAddress, rowTimeout}
+use Rattle.suppliers.specs.Schedule.{inDelay, delayFits, Tabled, dispatchFits, idleFits, precedes, rowWrong, partTestsBy, partTests}
+use Rattle.suppliers.specs.Schedule.{joinedTestsBy, joinedTests}
+use Rattle.suppliers.specs.Delays.{countedDelays, rowWrongBy, partTestsIn, joinedTestsIn}
 
 -- a word that is the delay, and 0 where there is none, is read as the delay is, since no delay is 0
 word-says : (timeout word : ℕ) (o : Option ℕ) → word ≡ delayNumber o → ((d : ℕ) → o ≡ some d → 1 ≤ d)
@@ -50,17 +49,10 @@ module _ (T : Tables) (v : programVerdict T ≡ acceptedNumber) (l : CodeFits T)
       ap (λ (b : Bool). not (ltb (rowSupplier S i) suppliers && (dispatchFits T S i || idleFits S i) && b) || precedes S i (i - 1))
       (counted-says T v l (rowAddress S i) (rowTimeout S i))
 
-  -- some row is wrong by the counted delays exactly where one is by the listing
-  rows-counted : any (rowWrongBy T (countedDelays T) S) (scheduleCount S) ≡ rowsBad T S
-  unfolding rowsBad
-  rows-counted = λ j. any (λ i. wrong-counted i j) (scheduleCount S)
+  -- a part is tested by the counted delays as by the listing
+  pub part-counted : (s : ℕ) → partTestsIn T (countedDelays T) S s ≡ partTests T S s
+  part-counted s = λ j. partTestsBy (λ i. wrong-counted i j) S s
 
-  -- a part is refused by the counted delays as by the listing
-  pub part-counted : (s : ℕ) → partBadBy T (countedDelays T) S s ≡ partBad T S s
-  unfolding partBadBy partBad
-  part-counted s = ap (λ (b : Bool). b || any (λ i. not (eqb (rowSupplier S i) s)) (scheduleCount S) || leb suppliers s) rows-counted
-
-  -- the joined schedule is refused by the counted delays as by the listing
-  pub joined-counted : joinedBadBy T (countedDelays T) S ≡ joinedBad T S
-  unfolding joinedBadBy joinedBad
-  joined-counted = ap (λ (b : Bool). b || any (λ s. ltb maxPart (rowCount S s)) suppliers) rows-counted
+  -- the joined schedule is tested by the counted delays as by the listing
+  pub joined-counted : joinedTestsIn T (countedDelays T) S ≡ joinedTests T S
+  joined-counted = λ j. joinedTestsBy (λ i. wrong-counted i j) S

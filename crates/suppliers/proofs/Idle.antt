@@ -9,6 +9,7 @@ use lib.Dec.{eqb}
 use lib.IntN.{ℤ}
 use lib.ListN.{drop}
 use Rattle.theory.specs.Lists.{member}
+use Rattle.theory.specs.Rows.{placeless}
 use Rattle.theory.specs.Verdict.{acceptedNumber, orElse}
 use Rattle.theory.proofs.Bools.{clash, bars-iff, says-eq, says-itself, _and_}
 use Rattle.theory.proofs.Members.{member-keep}
@@ -72,7 +73,7 @@ module _ (T : Tables) (W : List ℤ) (s : ℕ) (accepted : programVerdict T ≡ 
 -- a supplier without tasks and rows is accepted
 pub idle-accepted : (L : Asked) → windowsVerdict (windowedOf L) ≡ acceptedNumber → supplierOf L < suppliers → L .part ≡ []
     → ((t : ℕ) → t < taskCount (L .tables) → taskSupplier (L .tables) t ≡ supplierOf L → ⊥)
-    → supplierVerdict L ≡ record { number = acceptedNumber; mode = 0; tick = 0 }
+    → supplierVerdict L ≡ placeless acceptedNumber
 idle-accepted L w l e f =
     ap supplierVerdict same
     ∙ good-accepted idle passes (idle-good (L .tables) (L .windows) (supplierOf L) (windows-accepted (windowedOf L) w) f)

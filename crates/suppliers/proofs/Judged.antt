@@ -3,6 +3,7 @@
 use Prim.Native.Nat.{ℕ, _<_}
 use mathlib.Core.Path.{_≡_, sym, ap, _∙_}
 use native.Mathlib.Omega.{arith}
+use Rattle.theory.specs.Rows.{placeless}
 use Rattle.theory.specs.Verdict.{acceptedNumber}
 use Rattle.program.specs.Tables.{modeCount}
 use Rattle.program.proofs.Decoded.{mode-count}
@@ -19,7 +20,7 @@ judged-modes L = ap (λ n. answerFrom (λ m. worstBreak (courseOf L m) nothing) 
 module _ (L : Asked) (a : partVerdict L ≡ acceptedNumber) where
   -- a supplier is accepted where its worst-case run in every mode is good
   pub good-accepted : ((m : ℕ) → m < modeCount (L .tables) → Good (courseOf L m) (worstCase (courseOf L m)) nothing)
-      → supplierVerdict L ≡ record { number = acceptedNumber; mode = 0; tick = 0 }
+      → supplierVerdict L ≡ placeless acceptedNumber
   good-accepted g =
       sym (supplier-judged L a)
       ∙ judged-modes L

@@ -1,6 +1,6 @@
--- Numbers 12 and 13 are exact: each test bars its claim, and the table of delays says those of the listing. Parts that pass, joined, pass.
--- The answer over the modes is that of the first whose run breaks; only such a one has a place. A supplier without tasks and rows is
--- accepted.
+-- Numbers 12 and 13 are exact, row by row: each test bars its claim, and the table of delays says those of the listing. Parts that pass,
+-- joined, pass. The answer over the modes is that of the first whose run breaks. A supplier without tasks and rows is accepted.
+pub mod Few
 pub mod Windows
 pub mod Schedule
 pub mod Dispatched

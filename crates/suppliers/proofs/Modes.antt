@@ -5,10 +5,10 @@ use mathlib.Core.Logic.{_⊎_, inl, inr, _↔_}
 use native.Mathlib.Omega.{arith}
 use native.Mathlib.Decide.{ℕ-discrete, decLt}
 use Rattle.theory.specs.Verdict.{acceptedNumber}
+use Rattle.theory.specs.declared.Answer.{Answer}
 use Rattle.cells.specs.Refusals.{outsideRefused, lateRefused}
 use Rattle.runs.specs.Round.{Break, none, outside, late}
 use Rattle.suppliers.specs.Supplier.{answerOf, answerFrom}
-use Rattle.suppliers.specs.declared.Answer.{Answer}
 
 -- no run breaks in the n modes from m on
 abbrev pub AllGood : (ℕ → Break) → ℕ → ℕ → Type 0
@@ -36,13 +36,13 @@ some-number m (late t) d e = omega arith
 answer-one : (i j : ℕ) (b c : Break) → (b ≡ none → ⊥) → (c ≡ none → ⊥) → answerOf i b ≡ answerOf j c → (i ≡ j) × (b ≡ c)
 answer-one i j none c d f e = absurd (d refl)
 answer-one i j (outside s) none d f e = absurd (f refl)
-answer-one i j (outside s) (outside t) d f e = (ap (λ (a : Answer). a .mode) e, ap (λ (a : Answer). outside (a .tick)) e)
+answer-one i j (outside s) (outside t) d f e = (ap (λ (a : Answer). a .outer) e, ap (λ (a : Answer). outside (a .inner)) e)
 answer-one i j (outside s) (late t) d f e =
     absurd (let z : _≡_ {A = ℕ} outsideRefused lateRefused = ap (λ (a : Answer). a .number) e in omega arith)
 answer-one i j (late s) none d f e = absurd (f refl)
 answer-one i j (late s) (outside t) d f e =
     absurd (let z : _≡_ {A = ℕ} lateRefused outsideRefused = ap (λ (a : Answer). a .number) e in omega arith)
-answer-one i j (late s) (late t) d f e = (ap (λ (a : Answer). a .mode) e, ap (λ (a : Answer). late (a .tick)) e)
+answer-one i j (late s) (late t) d f e = (ap (λ (a : Answer). a .outer) e, ap (λ (a : Answer). late (a .inner)) e)
 
 module _ (breaks : ℕ → Break) where
   here : (n m : ℕ) (b : Break) → breaks m ≡ b → (b ≡ none → ⊥) → Answered breaks (suc n) m (answerOf m b)

@@ -1,4 +1,4 @@
--- Tables that differ in their tasks alone, by the worst-case times of other suppliers than s: the listing, the test of a part of
+-- Tables that differ in their tasks alone, by the worst-case times of other suppliers than s: the listing, the tests of a part of
 -- s and the courses of s are the same. Assumes as many tasks, each with the same supplier, and the same times of those of s.
 use Prim.Native.Nat.{ℕ, _+_, _-_, _/_, _≤_, _<_}
 use mathlib.Core.Path.{_≡_, refl, ap, _∙_}
@@ -6,12 +6,12 @@ use mathlib.Core.Bool.{true, not, _&&_, _||_}
 use mathlib.Core.List.{List, [], _∷_, _++_}
 use native.Mathlib.Omega.{arith}
 use native.Mathlib.Decide.{decLt}
-use lib.Dec.{eqb, ltb, leb}
+use lib.Dec.{eqb, ltb}
 use lib.IntN.{ℤ}
 use lib.ListN.{length, List·getD-eq-default}
 use borrow.Author.Tests.{eqb-true}
 use Rattle.theory.specs.Lists.{keep, cat, member}
-use Rattle.theory.specs.Search.{any}
+use Rattle.theory.specs.Rows.{someBad}
 use Rattle.theory.proofs.Lists.{each-length}
 use Rattle.theory.proofs.Members.{has-then, has-keep, member-says}
 use Rattle.cells.specs.Limits.{suppliers}
@@ -24,11 +24,11 @@ use Rattle.code.specs.Op.{jump}
 use Rattle.code.specs.Listing.{callDriver, blockAddress, entryAddress, futureAddress, headOf, testsOf, bodyOf, endOf, stubsOf, blockCode}
 use Rattle.code.specs.Listing.{listing}
 use Rattle.code.specs.Compile.{listingOf, delayAt}
-use Rattle.runs.specs.Schedule.{scheduleCount, rowSupplier, rowAddress, rowKind, rowTask, rowTimeout, kindDispatch}
+use Rattle.runs.specs.Schedule.{rowSupplier, rowAddress, rowKind, rowTask, rowTimeout, kindDispatch}
 use Rattle.runs.specs.Windows.{inWindow}
 use Rattle.runs.specs.Round.{Course, worstCase, worstBreak, nothing}
 use Rattle.runs.proofs.Same.{SameCourse, judge-same}
-use Rattle.suppliers.specs.Schedule.{inDelay, dispatchFits, idleFits, precedes, rowWrong, rowsBad, partBad}
+use Rattle.suppliers.specs.Schedule.{inDelay, dispatchFits, idleFits, precedes, rowWrong, partTestsBy, partTests, partBad}
 use Rattle.suppliers.specs.Supplier.{ownTasks, course}
 
 -- the same tables with other tasks
@@ -70,10 +70,10 @@ module _ (T : Tables) (x : List ℤ) (s : ℕ) (as-many : length (T .tasks) ≡ 
   count : taskCount T ≡ taskCount (withTasks T x)
   count = ap (λ n. n / taskWidth) as-many
 
-  -- a schedule has a wrong row exactly where it has one with the other tasks
-  rows-tasks : (S : List ℤ) → rowsBad T S ≡ rowsBad (withTasks T x) S
-  unfolding rowsBad rowWrong dispatchFits
-  rows-tasks S = λ k. any (λ i. wrong i k) (scheduleCount S)
+  -- number 13 tests the rows of a part with the other tasks as with these
+  pub tests-tasks : (S : List ℤ) (r : ℕ) → partTests T S r ≡ partTests (withTasks T x) S r
+  unfolding rowWrong dispatchFits
+  tests-tasks S r = λ k. partTestsBy (λ i. wrong i k) S r
     where
       wrong : (i : ℕ) → rowWrong T (listingOf T) S i ≡ rowWrong (withTasks T x) (listingOf (withTasks T x)) S i
       wrong i = λ k.
@@ -86,7 +86,7 @@ module _ (T : Tables) (x : List ℤ) (s : ℕ) (as-many : length (T .tasks) ≡ 
   -- number 13 says the same of a part with the other tasks
   pub part-tasks : (S : List ℤ) (r : ℕ) → partBad T S r ≡ partBad (withTasks T x) S r
   unfolding partBad
-  part-tasks S r = λ k. rows-tasks S k || any (λ i. not (eqb (rowSupplier S i) r)) (scheduleCount S) || leb suppliers r
+  part-tasks S r = ap someBad (tests-tasks S r)
 
   -- a task has the same supplier, and one of s the same worst-case time
   task-same : (t : ℕ) → (task (programOf T) t .supplier ≡ task (programOf (withTasks T x)) t .supplier)

@@ -5,13 +5,12 @@ use mathlib.Core.Bool.{Bool}
 use mathlib.Core.List.{List}
 use lib.IntN.{ℤ}
 use lib.ListN.{length, replicate}
-use Rattle.theory.specs.Search.{any}
+use Rattle.theory.specs.Rows.{RowTests}
 use Rattle.cells.specs.Limits.{maxCode}
 use Rattle.program.specs.Tables.{Tables, modeCount}
 use Rattle.program.specs.Sets.{sensorRows}
 use Rattle.layout.specs.Delays.{modesMarked}
-use Rattle.runs.specs.Schedule.{scheduleCount}
-use Rattle.suppliers.specs.Schedule.{delayFits, wrongRow, badPart, badJoined}
+use Rattle.suppliers.specs.Schedule.{delayFits, wrongRow, partTestsBy, joinedTestsBy}
 
 -- the delays that are counted from the tables
 abbrev pub countedDelays : Tables → List ℕ
@@ -21,10 +20,10 @@ countedDelays T = modesMarked T (length (sensorRows (T .ports) (λ p. p))) (mode
 unfoldable pub rowWrongBy : Tables → List ℕ → List ℤ → ℕ → Bool
 rowWrongBy T delays S i = wrongRow (delayFits delays) T S i
 
--- the part of supplier s breaks number 13, by a table of delays
-unfoldable pub partBadBy : Tables → List ℕ → List ℤ → ℕ → Bool
-partBadBy T delays S s = badPart (any (rowWrongBy T delays S) (scheduleCount S)) S s
+-- number 13 of the part of supplier s, row by row, by a table of delays
+abbrev pub partTestsIn : Tables → List ℕ → List ℤ → ℕ → List RowTests
+partTestsIn T delays S s = partTestsBy (rowWrongBy T delays S) S s
 
--- the joined schedule breaks number 13, by a table of delays
-unfoldable pub joinedBadBy : Tables → List ℕ → List ℤ → Bool
-joinedBadBy T delays S = badJoined (any (rowWrongBy T delays S) (scheduleCount S)) S
+-- number 13 of the joined schedule, row by row, by a table of delays
+abbrev pub joinedTestsIn : Tables → List ℕ → List ℤ → List RowTests
+joinedTestsIn T delays S = joinedTestsBy (rowWrongBy T delays S) S

@@ -4,18 +4,18 @@
 use Prim.Native.Nat.{ℕ, _-_, _≤_, _<_}
 use mathlib.Core.Path.{_≡_}
 use mathlib.Core.Bool.{Bool, false, not, _&&_, _||_}
-use mathlib.Core.List.{List}
+use mathlib.Core.List.{List, [], _∷_}
 use mathlib.Core.Option.{Option, none, some}
 use mathlib.Core.Logic.{_⊎_}
 use lib.Dec.{eqb, ltb, leb}
 use lib.IntN.{ℤ}
 use lib.ListN.{length}
-use Rattle.theory.specs.Search.{any}
 use Rattle.theory.specs.Lists.{those}
+use Rattle.theory.specs.Rows.{RowTests, testing, someBad, RowRules, asking}
 use Rattle.cells.specs.Cell.{wordAt}
 use Rattle.cells.specs.Limits.{suppliers, maxPart}
 use Rattle.cells.specs.Refusals.{scheduleRefused}
-use Rattle.program.specs.Tables.{Tables, taskCount, taskSupplier}
+use Rattle.program.specs.Tables.{Tables, taskCount, taskSupplier, scheduleAt, supplierAt}
 use Rattle.code.specs.Op.{Op}
 use Rattle.code.specs.Compile.{listingOf, delayAt}
 use Rattle.runs.specs.Schedule.{scheduleCount, rowSupplier, rowAddress, rowKind, rowTask, rowTimeout, kindDispatch, kindIdle, Sorted}
@@ -65,27 +65,39 @@ wrongRow within T S i =
 unfoldable pub rowWrong : Tables → List Op → List ℤ → ℕ → Bool
 rowWrong T code S i = wrongRow (λ a timeout. inDelay (delayAt code a) timeout) T S i
 
--- some row breaks number 13, by the delays of the program's listing
-unfoldable pub rowsBad : Tables → List ℤ → Bool
-rowsBad T S = let code = listingOf T in any (rowWrong T code S) (scheduleCount S)
+-- number 13 of the part of supplier s, row by row, where it is said which rows are wrong: a row is wrong or of another supplier; after
+-- all rows the supplier asked about, who is not 0..7, and is row 0 of its place
+abbrev pub partTestsBy : (ℕ → Bool) → List ℤ → ℕ → List RowTests
+partTestsBy wrong S s =
+    testing scheduleAt (scheduleCount S) (λ i. wrong i || not (eqb (rowSupplier S i) s))
+    ∷ testing supplierAt 1 (λ r. leb suppliers s)
+    ∷ []
 
--- the part of supplier s breaks number 13: a row is wrong or of another supplier, or s is not 0..7
-abbrev pub badPart : Bool → List ℤ → ℕ → Bool
-badPart wrong S s = wrong || any (λ i. not (eqb (rowSupplier S i) s)) (scheduleCount S) || leb suppliers s
+-- number 13 of the part of supplier s, row by row, by the delays of the program's listing
+abbrev pub partTests : Tables → List ℤ → ℕ → List RowTests
+partTests T S s = let code = listingOf T in partTestsBy (rowWrong T code S) S s
 
 unfoldable pub partBad : Tables → List ℤ → ℕ → Bool
-partBad T S s = badPart (rowsBad T S) S s
+partBad T S s = someBad (partTests T S s)
 
 -- how many rows of a schedule are of supplier s
 unfoldable pub rowCount : List ℤ → ℕ → ℕ
 rowCount S s = length (those (λ i. eqb (rowSupplier S i) s) (λ i. i) (scheduleCount S) 0)
 
--- the joined schedule breaks number 13: a row is wrong, or one supplier has over 256 rows
-abbrev pub badJoined : Bool → List ℤ → Bool
-badJoined wrong S = wrong || any (λ s. ltb maxPart (rowCount S s)) suppliers
+-- row i is past the 256th of its supplier: the row 256 above it has the same supplier, where the rows above it are sorted
+unfoldable pub pastPart : List ℤ → ℕ → Bool
+pastPart S i = leb maxPart i && eqb (rowSupplier S (i - maxPart)) (rowSupplier S i)
+
+-- number 13 of the joined schedule, row by row, where it is said which rows are wrong: a row is wrong, or past its supplier's 256th
+abbrev pub joinedTestsBy : (ℕ → Bool) → List ℤ → List RowTests
+joinedTestsBy wrong S = testing scheduleAt (scheduleCount S) (λ i. wrong i || pastPart S i) ∷ []
+
+-- number 13 of the joined schedule, row by row, by the delays of the program's listing
+abbrev pub joinedTests : Tables → List ℤ → List RowTests
+joinedTests T S = let code = listingOf T in joinedTestsBy (rowWrong T code S) S
 
 unfoldable pub joinedBad : Tables → List ℤ → Bool
-joinedBad T S = badJoined (rowsBad T S) S
+joinedBad T S = someBad (joinedTests T S)
 
 -- What number 13 asks of rows, of a part and of the joined schedule, as claims.
 pub record Dispatches (T : Tables) (S : List ℤ) (i : ℕ) : Type 0 where
@@ -117,3 +129,31 @@ pub record Part (T : Tables) (S : List ℤ) (s : ℕ) : Type 0 where
 pub record Joined (T : Tables) (S : List ℤ) : Type 0 where
   pub rows : Rows T S
   pub few : (s : ℕ) → s < suppliers → rowCount S s ≤ maxPart
+
+-- row j and the later row i stand in order: by supplier, then address
+abbrev pub InOrder : List ℤ → ℕ → ℕ → Type 0
+InOrder S j i = (rowSupplier S j ≤ rowSupplier S i) × (rowSupplier S j ≡ rowSupplier S i → rowAddress S j ≤ rowAddress S i)
+
+-- what rule 13 asks of row i of the part of supplier s: by itself, against the rows before it, and that it is the supplier's own
+pub record PartRow (T : Tables) (S : List ℤ) (s i : ℕ) : Type 0 where
+  pub itself : RowFits T S i
+  pub sorted : (j : ℕ) → j < i → InOrder S j i
+  pub own : rowSupplier S i ≡ s
+
+-- rule 13 of the part of supplier s, row by row
+abbrev pub partRowRules : Tables → List ℤ → ℕ → List RowRules
+partRowRules T S s = asking scheduleAt (scheduleCount S) (PartRow T S s) ∷ asking supplierAt 1 (λ r. s < suppliers) ∷ []
+
+-- how many rows before row i are of its supplier
+abbrev pub rowsBefore : List ℤ → ℕ → ℕ
+rowsBefore S i = length (those (λ j. eqb (rowSupplier S j) (rowSupplier S i)) (λ j. j) i 0)
+
+-- what rule 13 asks of row i of the joined schedule: by itself, against the rows before it, and that it is no 257th row of its supplier
+pub record JoinedRow (T : Tables) (S : List ℤ) (i : ℕ) : Type 0 where
+  pub itself : RowFits T S i
+  pub sorted : (j : ℕ) → j < i → InOrder S j i
+  pub few : rowsBefore S i < maxPart
+
+-- rule 13 of the joined schedule, row by row
+abbrev pub joinedRowRules : Tables → List ℤ → List RowRules
+joinedRowRules T S = asking scheduleAt (scheduleCount S) (JoinedRow T S) ∷ []

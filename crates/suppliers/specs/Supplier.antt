@@ -7,7 +7,9 @@ use lib.Dec.{eqb}
 use lib.IntN.{ℤ}
 use lib.ListN.{length}
 use Rattle.theory.specs.Lists.{keep}
-use Rattle.theory.specs.Verdict.{acceptedNumber, Refusal, verdict, Rule}
+use Rattle.theory.specs.Rows.{placeless}
+use Rattle.theory.specs.Verdict.{acceptedNumber, Refusal, verdict, firstRefusal, Rule}
+use Rattle.theory.specs.declared.Answer.{Answer}
 use Rattle.cells.specs.Cell.{indexOf}
 use Rattle.cells.specs.Limits.{maxWindows, maxPart}
 use Rattle.cells.specs.Refusals.{windowsRefused, scheduleRefused, outsideRefused, lateRefused}
@@ -19,9 +21,8 @@ use Rattle.code.specs.Compile.{callRefusals, callRules}
 use Rattle.runs.specs.Windows.{windowWidth, inWindow}
 use Rattle.runs.specs.Schedule.{scheduleWidth, blockOf}
 use Rattle.runs.specs.Round.{Course, Break, none, outside, late, worstBreak, nothing}
-use Rattle.suppliers.specs.Windows.{Windowed, windowsBad, Windows}
-use Rattle.suppliers.specs.Schedule.{partBad, Part}
-use Rattle.suppliers.specs.declared.Answer.{Answer}
+use Rattle.suppliers.specs.Windows.{Windowed, windowTests, windowsBad, Windows, windowRules}
+use Rattle.suppliers.specs.Schedule.{partTests, partBad, Part, partRowRules}
 
 -- what a supplier's verdict is lent: its part of the schedule, and its number as it is given
 pub record Asked : Type 0 where
@@ -63,11 +64,15 @@ breakTick none = 0
 breakTick (outside t) = t
 breakTick (late t) = t
 
+-- an answer that has this number, at tick t of mode m
+abbrev pub atTick : ℕ → ℕ → ℕ → Answer
+atTick n m t = record { number = n; outer = m; inner = t }
+
 -- the answer on a mode with its first break: only a break adds a place
 abbrev pub answerOf : ℕ → Break → Answer
-answerOf m none = record { number = acceptedNumber; mode = 0; tick = 0 }
-answerOf m (outside t) = record { number = breakNumber (outside t); mode = m; tick = t }
-answerOf m (late t) = record { number = breakNumber (late t); mode = m; tick = t }
+answerOf m none = placeless acceptedNumber
+answerOf m (outside t) = atTick (breakNumber (outside t)) m t
+answerOf m (late t) = atTick (breakNumber (late t)) m t
 
 -- the answer on the n modes from m on: that of the first whose run breaks
 abbrev pub answerFrom : (ℕ → Break) → ℕ → ℕ → Answer
@@ -92,8 +97,12 @@ windowedOf L = record { tables = L .tables; windows = L .windows }
 
 abbrev pub ownRefusals : List (Refusal Asked)
 ownRefusals =
-    record { number = windowsRefused; applies = λ L. windowsBad (windowedOf L) }
-    ∷ record { number = scheduleRefused; applies = λ L. partBad (L .tables) (L .part) (supplierOf L) }
+    record { number = windowsRefused; applies = λ L. windowsBad (windowedOf L); rows = λ L. windowTests (windowedOf L) }
+    ∷ record {
+      number = scheduleRefused;
+      applies = λ L. partBad (L .tables) (L .part) (supplierOf L);
+      rows = λ L. partTests (L .tables) (L .part) (supplierOf L);
+    }
     ∷ []
 
 abbrev pub partRefusals : List (Refusal Asked)
@@ -108,13 +117,21 @@ PartShaped L = Shaped (L .tables) × WholeRows windowWidth maxWindows (L .window
 
 abbrev pub ownRules : List (Rule Asked)
 ownRules =
-    record { number = windowsRefused; holds = λ L. Windows (windowedOf L) }
-    ∷ record { number = scheduleRefused; holds = λ L. Part (L .tables) (L .part) (supplierOf L) }
+    record { number = windowsRefused; holds = λ L. Windows (windowedOf L); rows = λ L. windowRules (windowedOf L) }
+    ∷ record {
+      number = scheduleRefused;
+      holds = λ L. Part (L .tables) (L .part) (supplierOf L);
+      rows = λ L. partRowRules (L .tables) (L .part) (supplierOf L);
+    }
     ∷ []
 
 abbrev pub partRules : List (Rule Asked)
 partRules = callRules (λ L. L .tables) PartShaped ownRules
 
--- the verdict on a supplier's schedule code: numbers 1 to 13 without a place, else what its run comes to
+-- the answer on a supplier's part before it is run: that number with its place
+unfoldable pub partAnswer : Asked → Answer
+partAnswer L = firstRefusal partRefusals L
+
+-- the verdict on a supplier's schedule code: the first of numbers 1 to 13 with its place, else what its run comes to
 unfoldable pub supplierVerdict : Asked → Answer
-supplierVerdict L = elim (partVerdict L) [ zero ↦ judged L | suc n ↦ record { number = suc n; mode = 0; tick = 0 } ]
+supplierVerdict L = elim (partVerdict L) [ zero ↦ judged L | suc n ↦ partAnswer L ]

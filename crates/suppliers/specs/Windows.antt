@@ -6,10 +6,12 @@ use mathlib.Core.List.{List, [], _∷_}
 use lib.Dec.{ltb, leb}
 use lib.IntN.{ℤ}
 use Rattle.theory.specs.Search.{any}
-use Rattle.theory.specs.Verdict.{Refusal, verdict, Rule}
+use Rattle.theory.specs.Rows.{RowTests, testing, someBad, RowRules, asking}
+use Rattle.theory.specs.Verdict.{Refusal, verdict, firstRefusal, Rule}
+use Rattle.theory.specs.declared.Answer.{Answer}
 use Rattle.cells.specs.Limits.{suppliers, maxWindows}
 use Rattle.cells.specs.Refusals.{windowsRefused}
-use Rattle.program.specs.Tables.{Tables, modeCount, modePeriod}
+use Rattle.program.specs.Tables.{Tables, modeCount, modePeriod, windowsAt}
 use Rattle.rules.specs.Shape.{badSlice, shapeBad, WholeRows, Shaped}
 use Rattle.code.specs.Compile.{callRefusals, callRules}
 use Rattle.runs.specs.Windows.{windowWidth, windowCount, windowSupplier, windowMode, windowFrom, windowTo, shareTick, Has}
@@ -28,8 +30,12 @@ windowWrong T W i =
     && leb (windowTo W i) (modePeriod T (windowMode W i)))
     || any (shareTick W i) i
 
+-- number 12, row by row
+abbrev pub windowTests : Windowed → List RowTests
+windowTests L = testing windowsAt (windowCount (L .windows)) (windowWrong (L .tables) (L .windows)) ∷ []
+
 unfoldable pub windowsBad : Windowed → Bool
-windowsBad L = any (windowWrong (L .tables) (L .windows)) (windowCount (L .windows))
+windowsBad L = someBad (windowTests L)
 
 pub record WindowFits (T : Tables) (W : List ℤ) (i : ℕ) : Type 0 where
   pub supplier : windowSupplier W i < suppliers
@@ -41,12 +47,21 @@ pub record Windows (L : Windowed) : Type 0 where
   pub each : (i : ℕ) → i < windowCount (L .windows) → WindowFits (L .tables) (L .windows) i
   pub apart : (i j m t : ℕ) → j < i → i < windowCount (L .windows) → Has (L .windows) i m t → Has (L .windows) j m t → ⊥
 
+-- what rule 12 asks of window i, by itself and against the rows before it, whoever owns them
+pub record WindowRow (L : Windowed) (i : ℕ) : Type 0 where
+  pub itself : WindowFits (L .tables) (L .windows) i
+  pub apart : (j m t : ℕ) → j < i → Has (L .windows) i m t → Has (L .windows) j m t → ⊥
+
+-- rule 12, row by row
+abbrev pub windowRules : Windowed → List RowRules
+windowRules L = asking windowsAt (windowCount (L .windows)) (WindowRow L) ∷ []
+
 -- number 1 applies to what the windows verdict is lent: a table or the windows are not whole rows, or have too many
 unfoldable pub windowsShapeBad : Windowed → Bool
 windowsShapeBad L = shapeBad (L .tables) || badSlice windowWidth maxWindows (L .windows)
 
 abbrev pub windowRowsRefusals : List (Refusal Windowed)
-windowRowsRefusals = record { number = windowsRefused; applies = windowsBad } ∷ []
+windowRowsRefusals = record { number = windowsRefused; applies = windowsBad; rows = windowTests } ∷ []
 
 abbrev pub windowsVerdictRefusals : List (Refusal Windowed)
 windowsVerdictRefusals = callRefusals (λ L. L .tables) windowsShapeBad windowRowsRefusals
@@ -55,11 +70,15 @@ windowsVerdictRefusals = callRefusals (λ L. L .tables) windowsShapeBad windowRo
 unfoldable pub windowsVerdict : Windowed → ℕ
 windowsVerdict L = verdict windowsVerdictRefusals L
 
+-- the answer on windows: that number with its place
+unfoldable pub windowsAnswer : Windowed → Answer
+windowsAnswer L = firstRefusal windowsVerdictRefusals L
+
 abbrev pub WindowsShaped : Windowed → Type 0
 WindowsShaped L = Shaped (L .tables) × WholeRows windowWidth maxWindows (L .windows)
 
 abbrev pub windowRowsRules : List (Rule Windowed)
-windowRowsRules = record { number = windowsRefused; holds = Windows } ∷ []
+windowRowsRules = record { number = windowsRefused; holds = Windows; rows = windowRules } ∷ []
 
 abbrev pub windowsVerdictRules : List (Rule Windowed)
 windowsVerdictRules = callRules (λ L. L .tables) WindowsShaped windowRowsRules

@@ -1,27 +1,50 @@
-// Number 13 of a program that numbers 1 to 11 pass: the delays of its listing are put in a table, and the rows held against it.
+// Number 13 of one supplier's part: the delays of its program's listing are put in a table, and the rows held against it.
 ghost use mathlib.Core.Path.{_≡_};
+ghost use mathlib.Core.List.{[], _∷_};
+ghost use lib.Dec.{leb};
 ghost use lib.IntN.{ℤ};
-ghost use Rattle.theory.specs.Verdict.{acceptedNumber};
-ghost use Rattle.program.specs.Tables.{tablesIn};
+ghost use Rattle.theory.specs.Rows.{testing};
+ghost use Rattle.theory.specs.Verdict.{acceptedNumber, rowsAnswer};
+ghost use Rattle.cells.specs.Limits.{suppliers};
+ghost use Rattle.cells.specs.Refusals.{scheduleRefused};
+ghost use Rattle.program.specs.Tables.{tablesIn, supplierAt};
 ghost use Rattle.rules.specs.Shape.{InShape};
 ghost use Rattle.rules.specs.Verdict.{programVerdict};
 ghost use Rattle.code.specs.Compile.{CodeFits};
-ghost use Rattle.suppliers.specs.Schedule.{partBad};
-ghost use Rattle.suppliers.specs.Delays.{countedDelays, partBadBy};
+ghost use Rattle.suppliers.specs.Schedule.{partTests};
+ghost use Rattle.suppliers.specs.Delays.{countedDelays, partTestsIn};
 use crate::schedule_rows;
+use cells::columns::schedule;
 use cells::limits::Program;
+use cells::refusals;
 use cells::tables;
 use layout::delays;
+use theory::Answer;
 
-// The part of one supplier is refused, by the delays that are counted; of a program that 1 to 11 pass, by those of its listing.
-pub fn refused(tables: &[&[i32]; Program::TABLES], rows: &[i32], supplier: usize) -> bool
+// The answer on a supplier where no row of its part is refused: refused as no supplier at all, or accepted.
+fn asked(supplier: usize) -> Answer
+    ensures { λ r. ⌜ r ≡ rowsAnswer scheduleRefused (testing supplierAt 1 (λ k. leb suppliers supplier) ∷ []) ⌝ }
+{
+    if Program::SUPPLIERS <= supplier {
+        return answers::found(refusals::SCHEDULE, tables::SUPPLIER, 0, 1);
+    }
+    answers::accepted()
+}
+
+// The answer on the part of one supplier, by the delays that are counted; of a program that 1 to 11 pass, by those of its listing.
+pub fn answer(tables: &[&[i32]; Program::TABLES], rows: &[i32], supplier: usize) -> Answer
     requires { ⌜ InShape (now tables) ⌝ }
     ensures counted { λ r. ⌜ ((start : ℤ) → let T = tablesIn (now (tables .entry)) start in
-        r ≡ partBadBy T (countedDelays T) (now (rows .entry)) supplier) ⌝ }
+        r ≡ rowsAnswer scheduleRefused (partTestsIn T (countedDelays T) (now (rows .entry)) supplier)) ⌝ }
     ensures listed { λ r. ⌜ ((start : ℤ) → let T = tablesIn (now (tables .entry)) start in
-        programVerdict T ≡ acceptedNumber → CodeFits T → r ≡ partBad T (now (rows .entry)) supplier) ⌝ }
+        programVerdict T ≡ acceptedNumber → CodeFits T → r ≡ rowsAnswer scheduleRefused (partTests T (now (rows .entry)) supplier)) ⌝ }
 {
     let mut table = [0u32; Program::CODE];
     delays::fill(tables, &mut table);
-    schedule_rows::part_bad(tables[tables::TASKS], &table, rows, supplier)
+    let n = rows.len() / schedule::WIDTH;
+    let wrong = schedule_rows::first_wrong_in_part(tables[tables::TASKS], &table, rows, supplier);
+    if n <= wrong {
+        return asked(supplier);
+    }
+    answers::found(refusals::SCHEDULE, tables::SCHEDULE, wrong, n)
 }

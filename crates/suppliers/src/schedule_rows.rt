@@ -1,13 +1,14 @@
-// Number 13: the first schedule row that is wrong by itself or comes before the one above it; the first row of another supplier.
+// Number 13: the first row of a part that is wrong by itself, comes before the one above it or is of another supplier; the first row of
+// the joined schedule that is so or past its supplier's last.
 ghost use mathlib.Core.Path.{_≡_};
-ghost use mathlib.Core.Bool.{not};
+ghost use mathlib.Core.Bool.{not, _||_};
 ghost use Prim.Native.Nat.{_-_};
 ghost use lib.Dec.{eqb};
 ghost use Rattle.theory.specs.Search.{first};
 ghost use Rattle.program.specs.Tables.{Tables};
 ghost use Rattle.runs.specs.Schedule.{scheduleCount, rowSupplier, rowAddress, rowTimeout};
-ghost use Rattle.suppliers.specs.Schedule.{delayFits, dispatchFits, idleFits, precedes};
-ghost use Rattle.suppliers.specs.Delays.{rowWrongBy, partBadBy};
+ghost use Rattle.suppliers.specs.Schedule.{delayFits, dispatchFits, idleFits, precedes, pastPart};
+ghost use Rattle.suppliers.specs.Delays.{rowWrongBy};
 use cells::columns::schedule;
 use cells::kinds::Task;
 use cells::limits::Program;
@@ -76,15 +77,24 @@ fn row_wrong(tasks: &[i32], delays: &[u32], rows: &[i32], i: usize) -> bool
     !fits | precedes(rows, i, above(i))
 }
 
-// The lowest row that breaks number 13; the number of rows where none does.
-pub fn first_wrong_row(tasks: &[i32], delays: &[u32], rows: &[i32]) -> usize
+// Row i of the part of this supplier is refused: it breaks number 13, or is of another supplier.
+fn refused_in_part(tasks: &[i32], delays: &[u32], rows: &[i32], supplier: usize, i: usize) -> bool
     ensures { λ r. ⌜ ((T : Tables) → T .tasks ≡ now (tasks .entry)
-        → r ≡ first (rowWrongBy T (now (delays .entry)) (now (rows .entry))) (scheduleCount (now (rows .entry)))) ⌝ }
+        → r ≡ (rowWrongBy T (now (delays .entry)) (now (rows .entry)) i || not (eqb (rowSupplier (now (rows .entry)) i) supplier))) ⌝ }
+{
+    let own = table::field(rows, schedule::WIDTH, i, schedule::SUPPLIER) == supplier;
+    row_wrong(tasks, delays, rows, i) | !own
+}
+
+// The lowest row of the part of this supplier that is refused; the number of rows where none is.
+pub fn first_wrong_in_part(tasks: &[i32], delays: &[u32], rows: &[i32], supplier: usize) -> usize
+    ensures { λ r. ⌜ ((T : Tables) → T .tasks ≡ now (tasks .entry) → let S = now (rows .entry) in
+        r ≡ first (λ i. rowWrongBy T (now (delays .entry)) S i || not (eqb (rowSupplier S i) supplier)) (scheduleCount S)) ⌝ }
 {
     let n = rows.len() / schedule::WIDTH;
     let mut i = 0;
     while i < n {
-        if row_wrong(tasks, delays, rows, i) {
+        if refused_in_part(tasks, delays, rows, supplier, i) {
             return i;
         }
         i += 1;
@@ -92,27 +102,30 @@ pub fn first_wrong_row(tasks: &[i32], delays: &[u32], rows: &[i32]) -> usize
     n
 }
 
-// The lowest row of another supplier; the number of rows where there is none.
-fn first_foreign_row(rows: &[i32], supplier: usize) -> usize
-    ensures { λ r. ⌜ r ≡ first (λ i. not (eqb (rowSupplier (now (rows .entry)) i) supplier)) (scheduleCount (now (rows .entry))) ⌝ }
+// Row i has the supplier of the row that stands as many rows above it as a part may have.
+fn past_part(rows: &[i32], i: usize) -> bool
+    ensures { λ r. ⌜ r ≡ pastPart (now (rows .entry)) i ⌝ }
+{
+    if i < Program::PART {
+        return false;
+    }
+    let supplier = table::field(rows, schedule::WIDTH, i, schedule::SUPPLIER);
+    let other = table::field(rows, schedule::WIDTH, i - Program::PART, schedule::SUPPLIER);
+    other == supplier
+}
+
+// The lowest row of the joined schedule that breaks number 13 or is past its supplier's last; the number of rows where none is.
+pub fn first_wrong_joined(tasks: &[i32], delays: &[u32], rows: &[i32]) -> usize
+    ensures { λ r. ⌜ ((T : Tables) → T .tasks ≡ now (tasks .entry) → let S = now (rows .entry) in
+        r ≡ first (λ i. rowWrongBy T (now (delays .entry)) S i || pastPart S i) (scheduleCount S)) ⌝ }
 {
     let n = rows.len() / schedule::WIDTH;
     let mut i = 0;
     while i < n {
-        if table::field(rows, schedule::WIDTH, i, schedule::SUPPLIER) != supplier {
+        if row_wrong(tasks, delays, rows, i) | past_part(rows, i) {
             return i;
         }
         i += 1;
     }
     n
-}
-
-// The part of one supplier breaks number 13: a row is wrong or of another supplier, or there is no such supplier.
-pub fn part_bad(tasks: &[i32], delays: &[u32], rows: &[i32], supplier: usize) -> bool
-    ensures { λ r. ⌜ ((T : Tables) → T .tasks ≡ now (tasks .entry) → r ≡ partBadBy T (now (delays .entry)) (now (rows .entry)) supplier) ⌝ }
-{
-    let n = rows.len() / schedule::WIDTH;
-    let wrong = first_wrong_row(tasks, delays, rows) < n;
-    let foreign = first_foreign_row(rows, supplier) < n;
-    wrong | foreign | (Program::SUPPLIERS <= supplier)
 }

@@ -9,6 +9,7 @@ pub mod WordNumber
 pub mod Decimals
 pub mod Lines
 pub mod Said
+pub mod Answers
 pub mod Pages
 pub mod Laying
 pub mod Filling

@@ -31,7 +31,7 @@ pub argument-few : (n : ℕ) → length (spaced (n ∷ [])) ≤ mostArgument
 argument-few n = omega (arith, decimal-few n, ap length (sym (spaced-one n)))
 
 -- how long two arguments are at most
-arguments-few : (n m : ℕ) → length (spaced (n ∷ m ∷ [])) ≤ mostArgument + mostArgument
+pub arguments-few : (n m : ℕ) → length (spaced (n ∷ m ∷ [])) ≤ mostArgument + mostArgument
 arguments-few n m =
     omega (arith, argument-few n, argument-few m, length-append (spaced (n ∷ [])) (spaced (m ∷ [])), ap length (spaced-two n m))
 

@@ -1,14 +1,17 @@
-// The printed listing: the line of an instruction, and the line of a verdict.
+// The printed listing: the line of an instruction, and the line of an answer.
 ghost use Prim.Native.Nat.{_+_, _≤_};
+ghost use mathlib.Core.Path.{_≡_};
 ghost use mathlib.Core.List.{[], _∷_, _++_};
 ghost use lib.ListN.{length};
 ghost use Rattle.code.specs.Op.{decode};
 ghost use Rattle.text.specs.Listing.{spaced, lineOf};
 ghost use Rattle.text.specs.Line.{room, Holds, Appended};
 ghost use Rattle.text.specs.Said.{mostMnemonic, mostSaid, saidOf, saidWhere};
-ghost use Rattle.text.specs.Shipped.{badInput, verdictLine};
+ghost use Rattle.text.specs.Shipped.{badInput, hasPlace, answerLine};
 use crate::line::Line;
+use cells::refusals;
 use code::numbers;
+use theory::Answer;
 
 // The line with a mnemonic without arguments, where both words are 0; else the line as it was.
 fn none(start: Line, mnemonic: &[u8], first: usize, second: usize) -> Line
@@ -67,11 +70,22 @@ pub fn line(address: usize, number: usize, first: usize, second: usize) -> Line
     said(start, number, first, second).push(b'\n')
 }
 
-// The line of a verdict: its number.
-pub fn verdict_line(n: usize) -> Line
-    ensures { λ r. ⌜ Holds r (verdictLine n) ⌝ }
+// Whether a number is one of 2 to 10, which have a place in the tables.
+fn has_place(number: usize) -> bool
+    ensures { λ r. ⌜ r ≡ hasPlace number ⌝ }
 {
-    Line::new().number(n).push(b'\n')
+    (refusals::FIELDS <= number) & (number <= refusals::WHOLE)
+}
+
+// The line of an answer: its number, and behind a number of 2 to 10 table and row.
+pub fn answer_line(x: Answer) -> Line
+    ensures { λ r. ⌜ Holds r (answerLine x) ⌝ }
+{
+    let start = Line::new().number(x.number);
+    if has_place(x.number) {
+        return start.argument(x.outer).argument(x.inner).push(b'\n');
+    }
+    start.push(b'\n')
 }
 
 // The line for a text that is no program: `bad input`.

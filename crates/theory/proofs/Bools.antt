@@ -102,6 +102,11 @@ infixl 35 _and_
 pub _and_ : {a b : Bool} {P Q : Type 0} → Says a P → Says b Q → Says (a && b) (P × Q)
 s and t = says-and s t
 
+-- the test that either test is bad bars both claims together, where the second test bars its claim if the first claim holds
+pub bars-then : {a b : Bool} {P Q : Type 0} → Bars a P → (P → Bars b Q) → Bars (a || b) (P × Q)
+bars-then {a = true} s t = record { ok = λ e. clash {b = true} refl e; bad = λ e r. s .bad refl (r .0) }
+bars-then {a = false} s t = record { ok = λ e. (s .ok refl, t (s .ok refl) .ok e); bad = λ e r. t (r .0) .bad e (r .1) }
+
 -- the test "not the one, or the other" says that the other claim follows from the one
 pub says-implies : {a b : Bool} {P Q : Type 0} → Says a P → Says b Q → Says (not a || b) (P → Q)
 says-implies {a = true} s t = record { yes = λ e p. t .yes e; no = λ e f. t .no e (f (s .yes refl)) }

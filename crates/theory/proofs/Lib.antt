@@ -2,6 +2,7 @@
 pub mod Bools
 pub mod Conditions
 pub mod Search
+pub mod Rows
 pub mod Lists
 pub mod Counting
 pub mod Summing
@@ -10,4 +11,5 @@ pub mod Members
 pub mod Puts
 pub mod Due
 pub mod Verdict
+pub mod Placing
 pub mod Order

@@ -107,7 +107,7 @@ module _ (p : ℕ → Bool) where
       go false false f g r h = clash {b = false} h refl
 
   -- the search finds the lowest row that passes
-  first-lowest : (n i : ℕ) → Lowest n i → first p n ≡ i
+  pub first-lowest : (n i : ℕ) → Lowest n i → first p n ≡ i
   first-lowest n i w =
       sym (first-found n i (record { in-range = omega (arith, w .below); clear = w .clear }) (w .below) (w .has))
 

@@ -1,14 +1,23 @@
--- The verdict is the first number that applies: n exactly where the rule of number n is broken and no earlier one is.
+-- The verdict is the first number that applies: n exactly where the rule of number n is broken and no earlier one is; and its place is
+-- that of the lowest row that breaks the rule.
 -- Assumes that each refusal's test bars the rule of its number where the earlier rules hold (`Barred`), and that no number is
 -- `acceptedNumber`.
 use Prim.Native.Nat.{ℕ, zero, suc, _<_}
-use mathlib.Core.Path.{_≡_, refl, sym, ap, _∙_}
-use mathlib.Core.Bool.{Bool, true, false}
+use mathlib.Core.Path.{_≡_, refl, sym, ap, subst, _∙_}
+use mathlib.Core.Bool.{Bool, true, false, _||_, cond}
 use mathlib.Core.List.{List, [], _∷_, _++_, map}
 use mathlib.Core.Logic.{_⊎_, inl, inr, _↔_}
 use native.Mathlib.Omega.{arith}
+use lib.Dec.{ltb}
+use Rattle.theory.specs.Search.{any, first}
 use Rattle.theory.specs.Claim.{Bars}
-use Rattle.theory.specs.Verdict.{acceptedNumber, orElse, Refusal, within, verdict, Rule, holding, First, Keep, after}
+use Rattle.theory.specs.Rows.{RowTests, testing, RowRules, placeless, atRow, someBad, placed, Every, Breaks, PlacedAt, Unbroken}
+use Rattle.theory.specs.Verdict.{acceptedNumber, orElse, Refusal, within, verdict, firstRefusal, orNext, Rule, holding, First, Keep, rowsAnswer, found}
+use Rattle.theory.specs.Verdict.{after, FirstAt, ByRows}
+use Rattle.theory.specs.declared.Answer.{Answer}
+use Rattle.theory.proofs.Bools.{bars-iff, bars-as}
+use Rattle.theory.proofs.Search.{search-says}
+use Rattle.theory.proofs.Rows.{RowsJoined, rows-bar, lowest-one, placed-number, placed-lowest, every-unbroken}
 
 -- of two verdicts, a first that refuses stays
 pub after-given : (m n : ℕ) → acceptedNumber < m → after m n ≡ m
@@ -20,33 +29,162 @@ pub after-none : (m n : ℕ) → after m n ≡ acceptedNumber → (m ≡ accepte
 after-none zero n e = (refl, e)
 after-none (suc m) n e = absurd (omega arith)
 
+-- two answers with the same number and the same place are the same
+pub same-answer : (x y : Answer) → x .number ≡ y .number → x .outer ≡ y .outer → x .inner ≡ y .inner → x ≡ y
+same-answer x y n o r = λ i. record { number = n i; outer = o i; inner = r i }
+
+-- the rows of a test and of its rule: none of either, or the same, and then the test is that some row is bad
+abbrev pub Rowed : Bool → List RowTests → List RowRules → Type 0
+Rowed b [] [] = Unit {0}
+Rowed b [] (q ∷ qs) = ⊥
+Rowed b (t ∷ ts) [] = ⊥
+Rowed b (t ∷ ts) (q ∷ qs) = RowsJoined (t ∷ ts) (q ∷ qs) × (b ≡ someBad (t ∷ ts))
+
+-- a test that some row is bad bars the rule that every row fits
+pub bars-rows : {H : Type 0} {b : Bool} (ts : List RowTests) (qs : List RowRules) → RowsJoined ts qs × (b ≡ someBad ts)
+    → (Every qs → H) → (H → Every qs) → Bars b H
+bars-rows {H} ts qs w there back = subst (λ (b : Bool). Bars b H) (sym (w .1)) (bars-as (rows-bar ts qs (w .0)) there back)
+
+-- a search over the rows of one table comes to the answer that these rows give
+pub found-rows : (n t : ℕ) {count : ℕ} (bad : ℕ → Bool) {r m : ℕ} → r ≡ first bad count → m ≡ count
+    → found n t r m ≡ rowsAnswer n (testing t count bad ∷ [])
+found-rows n t {count} bad {r} {m} e f = go (any bad count) (search-says bad e f)
+  where
+    go : (b : Bool) → ltb r m ≡ b
+        → cond (ltb r m) (atRow n t r) (placeless acceptedNumber)
+        ≡ cond (b || false) (cond b (atRow n t (first bad count)) (placeless n)) (placeless acceptedNumber)
+    go true q = (λ i. cond (q i) (atRow n t r) (placeless acceptedNumber)) ∙ ap (atRow n t) e
+    go false q = λ i. cond (q i) (atRow n t r) (placeless acceptedNumber)
+
+-- a refusal that is given by rows has, by itself, the answer that they give
+pub one-answer : {A : Type 0} (r : Refusal A) (a : A) → r .applies a ≡ someBad (r .rows a) → firstRefusal (r ∷ []) a ≡ rowsAnswer (r .number) (r .rows a)
+one-answer r a e = λ i. cond (e i) (placed (r .number) (r .rows a)) (placeless acceptedNumber)
+
+-- two places of one broken rule are one
+placed-one : (qs : List RowRules) (t r u k : ℕ) → PlacedAt qs t r → PlacedAt qs u k → (t ≡ u) × (r ≡ k)
+placed-one [] t r u k x y = (x .0 ∙ sym (y .0), x .1 ∙ sym (y .1))
+placed-one (q ∷ qs) t r u k x y = lowest-one (q ∷ qs) t r u k x y
+
+-- the place of a refusal that applies is the place of its rule
+rowed-placed : (n : ℕ) (b : Bool) (ts : List RowTests) (qs : List RowRules) → Rowed b ts qs → b ≡ true
+    → PlacedAt qs (placed n ts .outer) (placed n ts .inner)
+rowed-placed n b [] [] w e = (refl, refl)
+rowed-placed n b [] (q ∷ qs) w e = absurd w
+rowed-placed n b (t ∷ ts) [] w e = absurd w
+rowed-placed n b (t ∷ ts) (q ∷ qs) w e = placed-lowest n (t ∷ ts) (q ∷ qs) (w .0) (sym (w .1) ∙ e)
+
+-- a rule that is said of rows holds exactly where no row breaks it
+rowed-unbroken : {H : Type 0} (b : Bool) (ts : List RowTests) (qs : List RowRules) → Rowed b ts qs → Bars b H → Unbroken qs H
+rowed-unbroken b [] [] w s = tt
+rowed-unbroken b [] (q ∷ qs) w s = absurd w
+rowed-unbroken b (t ∷ ts) [] w s = absurd w
+rowed-unbroken {H} b (t ∷ ts) (q ∷ qs) w s =
+    let own : (b ≡ false) ↔ H = bars-iff s in
+    let every : (someBad (t ∷ ts) ≡ false) ↔ Every (q ∷ qs) = bars-iff (rows-bar (t ∷ ts) (q ∷ qs) (w .0)) in
+    let none : Every (q ∷ qs) ↔ ((u r : ℕ) → Breaks (q ∷ qs) u r → ⊥) = every-unbroken (t ∷ ts) (q ∷ qs) (w .0) in
+    (λ h. none .0 (every .0 (sym (w .1) ∙ own .1 h)), λ u. own .0 (w .1 ∙ every .1 (none .1 u)))
+
+-- of two answers, a first that refuses stays
+pub next-given : (x y : Answer) → (x .number ≡ acceptedNumber → ⊥) → orNext x y ≡ x
+next-given x y d = go (x .number) refl
+  where
+    go : (n : ℕ) → x .number ≡ n → elim n [ zero ↦ y | suc m ↦ x ] ≡ x
+    go zero e = absurd (d e)
+    go (suc m) e = refl
+
+-- of two answers, the second is given where the first accepts
+pub next-none : (x y : Answer) → x .number ≡ acceptedNumber → orNext x y ≡ y
+next-none x y e = λ i. elim (e i) [ zero ↦ y | suc m ↦ x ]
+
 module _ {A : Type 0} where
-  -- the tests and the rules of one call: the same numbers in the same order, and each test bars its rule where the earlier rules hold
+  -- a test meets its rule: the number is the rule's, the test bars the rule, and both speak of the same rows
+  pub record Meets (r : Refusal A) (g : Rule A) (a : A) : Type 0 where
+    pub number : r .number ≡ g .number
+    pub bars : Bars (r .applies a) (g .holds a)
+    pub rows : Rowed (r .applies a) (r .rows a) (g .rows a)
+
+  -- the tests and the rules of one call: the same numbers in the same order, and each test meets its rule where the earlier rules hold
   abbrev pub Barred : List (Refusal A) → List (Rule A) → A → Type 0
   Barred [] [] a = Unit {0}
   Barred [] (g ∷ gs) a = ⊥
   Barred (r ∷ rs) [] a = ⊥
-  Barred (r ∷ rs) (g ∷ gs) a = (r .number ≡ g .number) × Bars (r .applies a) (g .holds a) × (g .holds a → Barred rs gs a)
+  Barred (r ∷ rs) (g ∷ gs) a = Meets r g a × (g .holds a → Barred rs gs a)
 
   -- the verdict is the number of the first rule that is broken, and no other number is
   pub verdict-first : (rs : List (Refusal A)) (gs : List (Rule A)) (a : A) → Barred rs gs a → (n : ℕ) → (verdict rs a ≡ n) ↔ First gs a n
   verdict-first [] [] a w n = (λ e. sym e, λ e. sym e)
   verdict-first [] (g ∷ gs) a w n = absurd w
   verdict-first (r ∷ rs) [] a w n = absurd w
-  verdict-first (r ∷ rs) (g ∷ gs) a w n = go (r .applies a) (w .1) (λ h. verdict-first rs gs a (w .2 h) n)
+  verdict-first (r ∷ rs) (g ∷ gs) a w n = go (r .applies a) (w .0 .bars) (λ h. verdict-first rs gs a (w .1 h) n)
     where
       go : (b : Bool) → Bars b (g .holds a) → (g .holds a → (verdict rs a ≡ n) ↔ First gs a n)
           → (orElse b (r .number) (verdict rs a) ≡ n) ↔ (((g .holds a → ⊥) × (n ≡ g .number)) ⊎ (g .holds a × First gs a n))
-      go true s ih = (λ e. inl (s .bad refl, sym e ∙ w .0), back)
+      go true s ih = (λ e. inl (s .bad refl, sym e ∙ w .0 .number), back)
         where
           back : ((g .holds a → ⊥) × (n ≡ g .number)) ⊎ (g .holds a × First gs a n) → r .number ≡ n
-          back (inl x) = w .0 ∙ sym (x .1)
+          back (inl x) = w .0 .number ∙ sym (x .1)
           back (inr x) = absurd (s .bad refl (x .0))
       go false s ih = (λ e. inr (s .ok refl, ih (s .ok refl) .0 e), back)
         where
           back : ((g .holds a → ⊥) × (n ≡ g .number)) ⊎ (g .holds a × First gs a n) → verdict rs a ≡ n
           back (inl x) = absurd (x .0 (s .ok refl))
           back (inr x) = ih (x .0) .1 (x .1)
+
+  -- the answer is that of the first rule that is broken, with the lowest row that breaks it, and no other answer is
+  pub answer-first : (rs : List (Refusal A)) (gs : List (Rule A)) (a : A) → Barred rs gs a → (x : Answer)
+      → (firstRefusal rs a ≡ x) ↔ FirstAt gs a x
+  answer-first [] [] a w x = (λ e. sym e, λ e. sym e)
+  answer-first [] (g ∷ gs) a w x = absurd w
+  answer-first (r ∷ rs) [] a w x = absurd w
+  answer-first (r ∷ rs) (g ∷ gs) a w x =
+      go (r .applies a) (w .0 .bars) (rowed-placed (r .number) (r .applies a) (r .rows a) (g .rows a) (w .0 .rows)) (λ h. answer-first rs gs a (w .1 h) x)
+    where
+      own : Answer
+      own = placed (r .number) (r .rows a)
+
+      Own : Type 0
+      Own = (g .holds a → ⊥) × (x .number ≡ g .number) × PlacedAt (g .rows a) (x .outer) (x .inner)
+
+      go : (b : Bool) → Bars b (g .holds a) → (b ≡ true → PlacedAt (g .rows a) (own .outer) (own .inner))
+          → (g .holds a → (firstRefusal rs a ≡ x) ↔ FirstAt gs a x)
+          → (cond b own (firstRefusal rs a) ≡ x) ↔ (Own ⊎ (g .holds a × FirstAt gs a x))
+      go true s p ih = (λ e. inl (there e), back)
+        where
+          there : own ≡ x → Own
+          there e = (
+            s .bad refl,
+            ap (λ (y : Answer). y .number) (sym e) ∙ placed-number (r .number) (r .rows a) ∙ w .0 .number,
+            subst (λ (y : Answer). PlacedAt (g .rows a) (y .outer) (y .inner)) e (p refl),
+          )
+
+          back : Own ⊎ (g .holds a × FirstAt gs a x) → own ≡ x
+          back (inl y) =
+              let (o, k) = placed-one (g .rows a) (own .outer) (own .inner) (x .outer) (x .inner) (p refl) (y .2) in
+              same-answer own x (placed-number (r .number) (r .rows a) ∙ w .0 .number ∙ sym (y .1)) o k
+          back (inr y) = absurd (s .bad refl (y .0))
+      go false s p ih = (λ e. inr (s .ok refl, ih (s .ok refl) .0 e), back)
+        where
+          back : Own ⊎ (g .holds a × FirstAt gs a x) → firstRefusal rs a ≡ x
+          back (inl y) = absurd (y .0 (s .ok refl))
+          back (inr y) = ih (y .0) .1 (y .1)
+
+  -- each rule that asks of rows holds exactly where no row breaks it, where the rules before it hold
+  pub by-rows : (rs : List (Refusal A)) (gs : List (Rule A)) (a : A) → Barred rs gs a → ByRows gs a
+  by-rows [] [] a w = tt
+  by-rows [] (g ∷ gs) a w = absurd w
+  by-rows (r ∷ rs) [] a w = absurd w
+  by-rows (r ∷ rs) (g ∷ gs) a w =
+      (rowed-unbroken (r .applies a) (r .rows a) (g .rows a) (w .0 .rows) (w .0 .bars), λ h. by-rows rs gs a (w .1 h))
+
+  -- the number of the answer is the verdict
+  pub answer-number : (rs : List (Refusal A)) (a : A) → firstRefusal rs a .number ≡ verdict rs a
+  answer-number [] a = refl
+  answer-number (r ∷ rs) a = go (r .applies a) (answer-number rs a)
+    where
+      go : (b : Bool) → firstRefusal rs a .number ≡ verdict rs a
+          → cond b (placed (r .number) (r .rows a)) (firstRefusal rs a) .number ≡ orElse b (r .number) (verdict rs a)
+      go true ih = placed-number (r .number) (r .rows a)
+      go false ih = ih
 
   -- no rule has the number of acceptance
   abbrev pub Numbered : List (Rule A) → Type 0
@@ -134,6 +272,32 @@ module _ {A : Type 0} where
       → (verdict rs a ≡ acceptedNumber) × (verdict qs a ≡ acceptedNumber)
   verdict-both rs qs a w e = after-none (verdict rs a) (verdict qs a) (sym (verdict-append rs qs a w) ∙ e)
 
+  -- where no test applies, the answer accepts
+  pub clear-answer : (rs : List (Refusal A)) (a : A) → Clear rs a → firstRefusal rs a ≡ placeless acceptedNumber
+  clear-answer [] a c = refl
+  clear-answer (r ∷ rs) a c = (λ i. cond (c .0 i) (placed (r .number) (r .rows a)) (firstRefusal rs a)) ∙ clear-answer rs a (c .1)
+
+  -- where the verdict accepts, so does the answer
+  pub accepted-answer : (rs : List (Refusal A)) (a : A) → Refused rs → verdict rs a ≡ acceptedNumber
+      → firstRefusal rs a ≡ placeless acceptedNumber
+  accepted-answer rs a w e = clear-answer rs a (verdict-clear rs a w e)
+
+  -- the answer of two lists of refusals is that of the first, and of the second where the first accepts
+  pub answer-append : (rs qs : List (Refusal A)) (a : A) → Refused rs → firstRefusal (rs ++ qs) a ≡ orNext (firstRefusal rs a) (firstRefusal qs a)
+  answer-append [] qs a w = refl
+  answer-append (r ∷ rs) qs a w = go (r .applies a) (answer-append rs qs a (w .1))
+    where
+      go : (b : Bool) → firstRefusal (rs ++ qs) a ≡ orNext (firstRefusal rs a) (firstRefusal qs a)
+          → cond b (placed (r .number) (r .rows a)) (firstRefusal (rs ++ qs) a)
+          ≡ orNext (cond b (placed (r .number) (r .rows a)) (firstRefusal rs a)) (firstRefusal qs a)
+      go true ih = sym (next-given (placed (r .number) (r .rows a)) (firstRefusal qs a) (λ e. w .0 (sym (placed-number (r .number) (r .rows a)) ∙ e)))
+      go false ih = ih
+
+-- a list of refusals has the same answer in a call that is lent more
+pub answer-within : {A B : Type 0} (f : B → A) (rs : List (Refusal A)) (b : B) → firstRefusal (map (within f) rs) b ≡ firstRefusal rs (f b)
+answer-within f [] b = refl
+answer-within f (r ∷ rs) b = ap (cond (r .applies (f b)) (placed (r .number) (r .rows (f b)))) (answer-within f rs b)
+
 -- a list of refusals has the same verdict in a call that is lent more
 pub verdict-within : {A B : Type 0} (f : B → A) (rs : List (Refusal A)) (b : B) → verdict (map (within f) rs) b ≡ verdict rs (f b)
 verdict-within f [] b = refl
@@ -145,7 +309,10 @@ pub barred-within : {A B : Type 0} (f : B → A) (rs : List (Refusal A)) (gs : L
 barred-within f [] [] b w = tt
 barred-within f [] (g ∷ gs) b w = absurd w
 barred-within f (r ∷ rs) [] b w = absurd w
-barred-within f (r ∷ rs) (g ∷ gs) b w = (w .0, w .1, λ h. barred-within f rs gs b (w .2 h))
+barred-within f (r ∷ rs) (g ∷ gs) b w = (within-meets, λ h. barred-within f rs gs b (w .1 h))
+  where
+    within-meets : Meets (within f r) (holding f g) b
+    within-meets = record { number = w .0 .number; bars = w .0 .bars; rows = w .0 .rows }
 
 -- two lists of tests that bar their rules, one after the other, bar them
 pub barred-append : {A : Type 0} (rs qs : List (Refusal A)) (gs hs : List (Rule A)) (a : A)
@@ -153,4 +320,4 @@ pub barred-append : {A : Type 0} (rs qs : List (Refusal A)) (gs hs : List (Rule 
 barred-append [] qs [] hs a w v = v
 barred-append [] qs (g ∷ gs) hs a w v = absurd w
 barred-append (r ∷ rs) qs [] hs a w v = absurd w
-barred-append (r ∷ rs) qs (g ∷ gs) hs a w v = (w .0, w .1, λ h. barred-append rs qs gs hs a (w .2 h) v)
+barred-append (r ∷ rs) qs (g ∷ gs) hs a w v = (w .0, λ h. barred-append rs qs gs hs a (w .1 h) v)

@@ -1,4 +1,4 @@
-// The kind `compile`: a program and how many words are lent a case; its verdict, length and the words written a line.
+// The kind `compile`: a program and how many words are lent a case; its answer, length and the words written a line.
 use cases::numbers;
 use cases::out;
 use cases::out::Outcome;
@@ -34,14 +34,14 @@ fn listed(code: &[u32]) -> bool {
 // Writes the line of a program that was read, with n words lent; false where it could not be written.
 fn judged(l: Lengths, room: &[i32], code: &mut [u32], n: usize) -> bool {
     let end = least(n, code.len());
-    let answer = compiled(l, room, &mut code[..end]);
-    if !out::digits(answer.number) {
+    let made = compiled(l, room, &mut code[..end]);
+    if !out::answer(made.answer) {
         return false;
     }
-    if !out::after_space(answer.length) {
+    if !out::after_space(made.length) {
         return false;
     }
-    if !listed(words(code, answer.length)) {
+    if !listed(words(code, made.length)) {
         return false;
     }
     out::line_end()

@@ -1,4 +1,4 @@
-// The kind `supplier`: a program, its windows, a part of the schedule and a supplier a case; number, mode and tick a line.
+// The kind `supplier`: a program, its windows, a part of the schedule and a supplier a case; the answer a line.
 use cases::numbers;
 use cases::numbers::Number;
 use cases::out;
@@ -8,6 +8,7 @@ use cases::stream::Reader;
 use cases::tables;
 use cases::tables::Lengths;
 use cells::parts::part;
+use theory::Answer;
 
 // What was read of a case: a program, how many numbers of its windows and of the part were kept, and the supplier.
 struct Asked {
@@ -38,13 +39,7 @@ fn read_case(
 }
 
 // The verdict on a part of a program that was read.
-fn verdict(
-    l: Lengths,
-    room: &[i32],
-    windows: &[i32],
-    rows: &[i32],
-    supplier: i32,
-) -> suppliers::Answer {
+fn verdict(l: Lengths, room: &[i32], windows: &[i32], rows: &[i32], supplier: i32) -> Answer {
     let all = tables::tables_in(l, room);
     acceptance::supplier_verdict(&all, l.program, windows, rows, supplier)
 }
@@ -63,16 +58,7 @@ fn judged(a: Asked, room: &[i32], windows: &[i32], rows: &[i32]) -> bool {
         part(rows, 0, a.rows),
         supplier.value,
     );
-    if !out::digits(answer.number) {
-        return false;
-    }
-    if !out::after_space(answer.mode) {
-        return false;
-    }
-    if !out::after_space(answer.tick) {
-        return false;
-    }
-    out::line_end()
+    out::answer_line(answer)
 }
 
 // Answers a case of the kind `supplier`.

@@ -1,4 +1,4 @@
-// The kind `windows`: a program and its windows a case, the windows verdict a line.
+// The kind `windows`: a program and its windows a case, the answer a line.
 use cases::out;
 use cases::out::Outcome;
 use cases::room;
@@ -10,7 +10,7 @@ use cells::parts::part;
 // Writes the line of a program that was read, with its windows; false where it could not be written.
 fn judged(l: Lengths, room: &[i32], windows: &[i32]) -> bool {
     let all = tables::tables_in(l, room);
-    out::number(acceptance::windows_verdict(&all, l.program, windows))
+    out::answer_line(acceptance::windows_verdict(&all, l.program, windows))
 }
 
 // Answers a case of the kind `windows`.

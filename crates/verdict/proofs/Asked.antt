@@ -1,4 +1,4 @@
--- Refusals that are asked one after the other, each by its number: the first that applies gives the verdict.
+-- Refusals that are asked one after the other, each by its number: the first that applies gives the answer.
 -- Assumes that no number stands twice in the list.
 use Prim.Native.Nat.{ℕ, zero, suc, _+_, _<_}
 use mathlib.Core.Path.{_≡_, refl, sym, ap, _∙_}
@@ -10,10 +10,13 @@ use lib.Dec.{eqb}
 use lib.ListN.{length, drop, getD}
 use borrow.Author.Tests.{eq-eqb, ne-eqb}
 use Rattle.theory.specs.Lists.{some}
-use Rattle.theory.specs.Verdict.{acceptedNumber, orElse, Refusal, verdict}
+use Rattle.theory.specs.Rows.{placeless}
+use Rattle.theory.specs.Verdict.{acceptedNumber, Refusal, firstRefusal, orNext}
+use Rattle.theory.specs.declared.Answer.{Answer}
 use Rattle.theory.proofs.Bools.{neither}
 use Rattle.theory.proofs.Conditions.{cond-yes, cond-no}
-use Rattle.verdict.specs.Asked.{appliesBy}
+use Rattle.theory.proofs.Verdict.{Refused, answer-append}
+use Rattle.verdict.specs.Asked.{answerBy}
 
 -- some number stands twice in a list
 abbrev pub twice : List ℕ → Bool
@@ -40,30 +43,31 @@ module _ {A : Type 0} where
   abbrev pub numberAt : List (Refusal A) → ℕ → ℕ
   numberAt rs k = getD (numbers rs) k acceptedNumber
 
-  -- the verdict from a place on: the number there where it applies, else the verdict from the next place on
-  pub verdict-from : (rs : List (Refusal A)) (a : A) (k : ℕ) → twice (numbers rs) ≡ false → k < length (numbers rs)
-      → verdict (drop k rs) a ≡ orElse (appliesBy rs (numberAt rs k) a) (numberAt rs k) (verdict (drop (k + 1) rs) a)
-  verdict-from rs a k t l =
-      go rs k t l ∙ ap (λ (j : ℕ). orElse (appliesBy rs (numberAt rs k) a) (numberAt rs k) (verdict (drop j rs) a)) (sym (add-one k))
+  -- the answer from a place on: that of the number there, else the answer from the next place on
+  pub answer-from : (rs : List (Refusal A)) (a : A) (k : ℕ) → Refused rs → twice (numbers rs) ≡ false → k < length (numbers rs)
+      → firstRefusal (drop k rs) a ≡ orNext (answerBy rs (numberAt rs k) a) (firstRefusal (drop (k + 1) rs) a)
+  answer-from rs a k w t l =
+      go rs k w t l ∙ ap (λ (j : ℕ). orNext (answerBy rs (numberAt rs k) a) (firstRefusal (drop j rs) a)) (sym (add-one k))
     where
-      go : (qs : List (Refusal A)) (j : ℕ) → twice (numbers qs) ≡ false → j < length (numbers qs)
-          → verdict (drop j qs) a ≡ orElse (appliesBy qs (numberAt qs j) a) (numberAt qs j) (verdict (drop (suc j) qs) a)
-      go [] j u m = absurd (omega arith)
-      go (q ∷ qs) zero u m =
-          sym (ap (λ (b : Bool). orElse b (q .number) (verdict qs a)) (cond-yes (q .applies a) _ (eq-eqb (q .number) (q .number) refl)))
-      go (q ∷ qs) (suc j) u m =
+      go : (qs : List (Refusal A)) (j : ℕ) → Refused qs → twice (numbers qs) ≡ false → j < length (numbers qs)
+          → firstRefusal (drop j qs) a ≡ orNext (answerBy qs (numberAt qs j) a) (firstRefusal (drop (suc j) qs) a)
+      go [] j v u m = absurd (omega arith)
+      go (q ∷ qs) zero v u m =
+          answer-append (q ∷ []) qs a (v .0, tt)
+          ∙ sym (ap (λ (x : Answer). orNext x (firstRefusal qs a)) (cond-yes (firstRefusal (q ∷ []) a) _ (eq-eqb (q .number) (q .number) refl)))
+      go (q ∷ qs) (suc j) v u m =
           let once = neither (some (λ n. eqb n (q .number)) (numbers qs)) (twice (numbers qs)) u in
           let later = none-at (λ n. eqb n (q .number)) (numbers qs) j acceptedNumber (omega arith) (once .0) in
-          go qs j (once .1) (omega arith)
-          ∙ sym (ap (λ (b : Bool). orElse b (numberAt qs j) (verdict (drop (suc j) qs) a)) (cond-no (q .applies a) _ later))
+          go qs j (v .1) (once .1) (omega arith)
+          ∙ sym (ap (λ (x : Answer). orNext x (firstRefusal (drop (suc j) qs) a)) (cond-no (firstRefusal (q ∷ []) a) _ later))
 
-  -- a number applies where a number that it equals does
-  pub applies-as : (rs : List (Refusal A)) (a : A) {n k : ℕ} {b : Bool} → n ≡ k → b ≡ appliesBy rs k a → b ≡ appliesBy rs n a
-  applies-as rs a e h = h ∙ sym (ap (λ (m : ℕ). appliesBy rs m a) e)
+  -- a number comes to what a number comes to that it equals
+  pub answer-as : (rs : List (Refusal A)) (a : A) {n k : ℕ} {x : Answer} → n ≡ k → x ≡ answerBy rs k a → x ≡ answerBy rs n a
+  answer-as rs a e h = h ∙ sym (ap (λ (m : ℕ). answerBy rs m a) e)
 
-  -- a number that no refusal of a list has does not apply
-  pub applies-other : (W : Type 0) (rs : List (Refusal A)) (a : A) (n : ℕ) → Other W (numbers rs) n → W × (appliesBy rs n a ≡ false)
-  applies-other W [] a n h = (h, refl)
-  applies-other W (r ∷ rs) a n h =
-      let rest = applies-other (W × (n ≡ r .number → ⊥)) rs a n h in
-      (rest .0 .0, cond-no (r .applies a) _ (ne-eqb n (r .number) (rest .0 .1)) ∙ rest .1)
+  -- a number that no refusal of a list has is accepted
+  pub answer-other : (W : Type 0) (rs : List (Refusal A)) (a : A) (n : ℕ) → Other W (numbers rs) n → W × (answerBy rs n a ≡ placeless acceptedNumber)
+  answer-other W [] a n h = (h, refl)
+  answer-other W (r ∷ rs) a n h =
+      let rest = answer-other (W × (n ≡ r .number → ⊥)) rs a n h in
+      (rest .0 .0, cond-no (firstRefusal (r ∷ []) a) _ (ne-eqb n (r .number) (rest .0 .1)) ∙ rest .1)

@@ -1,11 +1,13 @@
 -- Refusals that are asked one after the other, each by its number.
 use Prim.Native.Nat.{ℕ}
-use mathlib.Core.Bool.{Bool, false, cond}
+use mathlib.Core.Bool.{cond}
 use mathlib.Core.List.{List, [], _∷_}
 use lib.Dec.{eqb}
-use Rattle.theory.specs.Verdict.{Refusal}
+use Rattle.theory.specs.Rows.{placeless}
+use Rattle.theory.specs.Verdict.{acceptedNumber, Refusal, firstRefusal}
+use Rattle.theory.specs.declared.Answer.{Answer}
 
--- the refusal of number n applies; where the list has no such number, none does
-abbrev pub appliesBy : {A : Type 0} → List (Refusal A) → ℕ → A → Bool
-appliesBy [] n a = false
-appliesBy (r ∷ rs) n a = cond (eqb n (r .number)) (r .applies a) (appliesBy rs n a)
+-- what the refusal of number n comes to by itself; accepted where the list has no such number
+abbrev pub answerBy : {A : Type 0} → List (Refusal A) → ℕ → A → Answer
+answerBy [] n a = placeless acceptedNumber
+answerBy (r ∷ rs) n a = cond (eqb n (r .number)) (firstRefusal (r ∷ []) a) (answerBy rs n a)

@@ -1,10 +1,11 @@
-// The verdict on a program: numbers 1 to 10 of document 01, the first that applies.
+// The verdict on a program: numbers 1 to 10 of document 01, the first that applies, and the row that it names.
 ghost use mathlib.Core.Path.{_≡_};
-ghost use Rattle.theory.specs.Verdict.{verdict};
-ghost use Rattle.program.specs.Tables.{tablesIn};
+ghost use lib.IntN.{ℤ};
+ghost use Rattle.theory.specs.Verdict.{firstRefusal, found};
+ghost use Rattle.program.specs.Tables.{tablesIn, rowsAt};
 ghost use Rattle.rules.specs.Shape.{InShape};
-ghost use Rattle.rules.specs.Verdict.{tableRefusals, programVerdict};
-ghost use Rattle.verdict.specs.Asked.{appliesBy};
+ghost use Rattle.rules.specs.Verdict.{tableRefusals, programAnswer};
+ghost use Rattle.verdict.specs.Asked.{answerBy};
 use cells::limits::Program;
 use cells::refusals;
 use cells::tables;
@@ -19,6 +20,7 @@ use rules_6_10::switches;
 use rules_6_10::units;
 use rules_6_10::updates;
 use rules_6_10::whole;
+use theory::Answer;
 
 // How many numbers are asked of tables that have their shape: 2 to 10.
 const ASKED: usize = 9;
@@ -36,67 +38,96 @@ const ORDER: [usize; ASKED] = [
     refusals::WHOLE,
 ];
 
-// This number, one of 2 to 10, applies to tables that have their shape; any other number never does.
-fn applies(tables: &[&[i32]; Program::TABLES], program: Program, number: usize) -> bool
+// What a search over all rows of a table comes to that ended at this row: this number there, or accepted behind the last row.
+fn named(tables: &[&[i32]; Program::TABLES], number: usize, table: usize, row: usize) -> Answer
+    ensures { λ r. ⌜ ((start : ℤ) → r ≡ found number table row (rowsAt (tablesIn (now (tables .entry)) start) table)) ⌝ }
+{
+    answers::found(number, table, row, rows::count(tables, table))
+}
+
+// What this number, one of 2 to 10, comes to on tables that have their shape: its place, or accepted; any other number is accepted.
+fn by_number(tables: &[&[i32]; Program::TABLES], program: Program, number: usize) -> Answer
     requires { ⌜ InShape (now tables) ⌝ }
-    ensures { λ r. ⌜ r ≡ appliesBy tableRefusals number (tablesIn (now (tables .entry)) (program .start)) ⌝ }
+    ensures { λ r. ⌜ r ≡ answerBy tableRefusals number (tablesIn (now (tables .entry)) (program .start)) ⌝ }
 {
     match number {
-        refusals::FIELDS => searches::fields_bad(tables, program),
+        refusals::FIELDS => searches::bad_field(tables, program),
         refusals::TASK_PORTS => {
-            task_ports::first_task_port_clash(tables[tables::PORTS], tables[tables::TASK_PORTS])
-                < rows::count(tables, tables::TASK_PORTS)
+            let row = task_ports::first_task_port_clash(
+                tables[tables::PORTS],
+                tables[tables::TASK_PORTS],
+            );
+            named(tables, number, tables::TASK_PORTS, row)
         }
         refusals::COPIES => {
-            copies::first_copy_clash(tables[tables::COPIES]) < rows::count(tables, tables::COPIES)
+            named(
+                tables,
+                number,
+                tables::COPIES,
+                copies::first_copy_clash(tables[tables::COPIES]),
+            )
         }
         refusals::MODE_PORTS => {
-            mode_ports::first_mode_port_clash(tables[tables::PORTS], tables[tables::MODE_PORTS])
-                < rows::count(tables, tables::MODE_PORTS)
+            let row = mode_ports::first_mode_port_clash(
+                tables[tables::PORTS],
+                tables[tables::MODE_PORTS],
+            );
+            named(tables, number, tables::MODE_PORTS, row)
         }
         refusals::INVOCATIONS => {
-            invocations::first_wrong_invocation(tables) < rows::count(tables, tables::INVOCATIONS)
+            named(
+                tables,
+                number,
+                tables::INVOCATIONS,
+                invocations::first_wrong_invocation(tables),
+            )
         }
-        refusals::UPDATES => {
-            updates::first_wrong_update(tables) < rows::count(tables, tables::UPDATES)
-        }
-        refusals::SWITCHES => {
-            switches::first_wrong_switch(tables) < rows::count(tables, tables::SWITCHES)
-        }
+        refusals::UPDATES => named(
+            tables,
+            number,
+            tables::UPDATES,
+            updates::first_wrong_update(tables),
+        ),
+        refusals::SWITCHES => named(
+            tables,
+            number,
+            tables::SWITCHES,
+            switches::first_wrong_switch(tables),
+        ),
         refusals::UNITS => {
             let m = units::first_wrong_units(tables);
-            cells::modes::declared(tables[tables::MODES], m)
+            named(tables, number, tables::MODES, m.word() as usize)
         }
         refusals::WHOLE => {
-            whole::first_not_whole(tables[tables::INVOCATIONS], tables[tables::SWITCHES])
-                < rows::count(tables, tables::SWITCHES)
+            let row = whole::first_not_whole(tables[tables::INVOCATIONS], tables[tables::SWITCHES]);
+            named(tables, number, tables::SWITCHES, row)
         }
-        _ => false,
+        _ => answers::accepted(),
     }
 }
 
-// The first of numbers 2 to 10 that applies to tables in shape, as every call asks it after its own number 1; 0 where none does.
-pub fn table_verdict(tables: &[&[i32]; Program::TABLES], program: Program) -> usize
+// The first of numbers 2 to 10 that applies to tables in shape, with its place, as every call asks it after its own number 1.
+pub fn table_verdict(tables: &[&[i32]; Program::TABLES], program: Program) -> Answer
     requires { ⌜ InShape (now tables) ⌝ }
-    ensures { λ r. ⌜ r ≡ verdict tableRefusals (tablesIn (now (tables .entry)) (program .start)) ⌝ }
+    ensures { λ r. ⌜ r ≡ firstRefusal tableRefusals (tablesIn (now (tables .entry)) (program .start)) ⌝ }
 {
     let mut k = 0;
     while k < ASKED {
-        let number = ORDER[k];
-        if applies(tables, program, number) {
-            return number;
+        let answer = by_number(tables, program, ORDER[k]);
+        if refusals::ACCEPTED < answer.number {
+            return answer;
         }
         k += 1;
     }
-    refusals::ACCEPTED
+    answers::accepted()
 }
 
-// The verdict on a program: the first of numbers 1 to 10 that applies, of any slices at all; 0 where none does.
-pub fn program_verdict(tables: &[&[i32]; Program::TABLES], program: Program) -> usize
-    ensures { λ r. ⌜ r ≡ programVerdict (tablesIn (now (tables .entry)) (program .start)) ⌝ }
+// The verdict on a program: the first of numbers 1 to 10 that applies, with its place, of any slices at all; 0 where none does.
+pub fn program_verdict(tables: &[&[i32]; Program::TABLES], program: Program) -> Answer
+    ensures { λ r. ⌜ r ≡ programAnswer (tablesIn (now (tables .entry)) (program .start)) ⌝ }
 {
     if slices::shape_bad(tables) {
-        return refusals::SHAPE;
+        return answers::refused(refusals::SHAPE);
     }
     table_verdict(tables, program)
 }

@@ -4,12 +4,13 @@ ghost use lib.IntN.{ℤ};
 ghost use Rattle.program.specs.Tables.{tablesIn};
 ghost use Rattle.rules.specs.Shape.{InShape};
 ghost use Rattle.code.specs.Compile.{codeLong};
-ghost use Rattle.verdict_2_11.specs.Tables.{tablesAndCodeVerdict};
+ghost use Rattle.verdict_2_11.specs.Tables.{tablesAndCodeAnswer};
 use cells::limits::Program;
 use cells::refusals;
 use cells::tables;
 use layout::addresses;
 use layout::counts;
+use theory::Answer;
 
 // Number 11 applies: the E code exceeds the limit. The code is counted, not written.
 fn code_long(tables: &[&[i32]; Program::TABLES]) -> bool
@@ -21,17 +22,17 @@ fn code_long(tables: &[&[i32]; Program::TABLES]) -> bool
     Program::CODE < laid.length
 }
 
-// The first of numbers 2 to 11 that applies to tables that have their shape.
-pub fn tables_and_code(tables: &[&[i32]; Program::TABLES], program: Program) -> usize
+// The first of numbers 2 to 11 that applies to tables that have their shape, with its place.
+pub fn tables_and_code(tables: &[&[i32]; Program::TABLES], program: Program) -> Answer
     requires { ⌜ InShape (now tables) ⌝ }
-    ensures { λ r. ⌜ r ≡ tablesAndCodeVerdict (tablesIn (now (tables .entry)) (program .start)) ⌝ }
+    ensures { λ r. ⌜ r ≡ tablesAndCodeAnswer (tablesIn (now (tables .entry)) (program .start)) ⌝ }
 {
-    let number = verdict::table_verdict(tables, program);
-    if refusals::ACCEPTED < number {
-        return number;
+    let answer = verdict::table_verdict(tables, program);
+    if refusals::ACCEPTED < answer.number {
+        return answer;
     }
     if code_long(tables) {
-        return refusals::CODE;
+        return answers::refused(refusals::CODE);
     }
-    refusals::ACCEPTED
+    answers::accepted()
 }

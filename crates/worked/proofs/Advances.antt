@@ -3,6 +3,7 @@ use Prim.Native.Nat.{_<_, _+_, _/_, _%_, _^_}
 use mathlib.Core.Path.{_≡_, refl}
 use mathlib.Core.Bool.{false}
 use lib.ListN.{length}
+use Rattle.theory.specs.Rows.{placeless}
 use Rattle.theory.specs.Verdict.{Keep}
 use Rattle.cells.specs.Limits.{wordsEach}
 use Rattle.program.specs.Tables.{taskCount}
@@ -21,7 +22,7 @@ use Rattle.worked.specs.Computed.{computed}
 use Rattle.worked.specs.Programs.{programF}
 use Rattle.worked.specs.Systems.{F-system, F-fresh, F-first}
 
-accepted : advanceAnswer F-first .number ≡ 0
+accepted : advanceAnswer F-first .answer .number ≡ 0
 unfolding computed
 accepted = refl
 
@@ -38,8 +39,12 @@ F-time = time-moves F-first accepted
 pub F-counted : (u : State) × (w : Returns F-first u) × (w .reaches .before < length (code F-system) / wordsEach)
 F-counted = instant-counted F-first accepted fresh-ends
 
+accepted-whole : advanceAnswer F-first .answer ≡ placeless 0
+unfolding computed
+accepted-whole = refl
+
 pub F-passes : Keep advanceRules F-first × TickPasses F-first
-F-passes = advance-exact F-first .accepted .0 accepted
+F-passes = advance-exact F-first .accepted .0 accepted-whole
 
 -- the schedule's rows are right, and in the second tick task 1 runs: it is declared
 rows-right : joinedBad (programF 6 2) (joined F-system) ≡ false

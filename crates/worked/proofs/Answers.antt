@@ -1,12 +1,14 @@
 -- What the other calls answer, of programs and schedule code by name: document 01's rows of a supplier's verdict and one refused with 13, a
 -- fresh state, accepted and refused, and compiling into a slice that is too short.
 use Prim.Native.Nat.{ℕ, _<_}
-use mathlib.Core.Path.{_≡_, refl}
+use mathlib.Core.Path.{_≡_, refl, ap}
 use mathlib.Core.List.{List, [], _∷_}
 use native.Mathlib.Omega.{arith}
 use lib.IntN.{pos}
 use lib.ListN.{replicate}
-use Rattle.theory.specs.Verdict.{First}
+use Rattle.theory.specs.Rows.{placeless, atRow}
+use Rattle.theory.specs.Verdict.{FirstAt}
+use Rattle.theory.specs.declared.Answer.{Answer}
 use Rattle.program.specs.Tables.{Tables, tables, sensor, modeCount}
 use Rattle.program.specs.Ports.{valueOf}
 use Rattle.rules.specs.Verdict.{programRules}
@@ -38,23 +40,23 @@ outside-at-9 = supplier-exact (asked 6 (window 0 9) (programs.schedule 1 0)) .ou
 pub late-at-5 : BreaksAt (asked 4 (window 0 10) (programs.schedule 0 1)) 0 (late 5)
 late-at-5 = supplier-exact (asked 4 (window 0 10) (programs.schedule 0 1)) .late-at 0 5 .0 t1-first .1
 
--- an answer of 13 has no place: supplier 8 is none
+-- supplier 8 is none: 13, at the place of the supplier asked about where there is no row
 abbrev stranger : Asked
 stranger = record { tables = programF 6 2; windows = window 0 10; part = []; supplier = pos 8 }
 
-stranger-refused : supplierVerdict stranger ≡ record { number = 13; mode = 0; tick = 0 }
+stranger-refused : supplierVerdict stranger ≡ atRow 13 13 0
 unfolding computed
 stranger-refused = refl
 
-pub F-stranger : First partRules stranger 13
-F-stranger = supplier-exact stranger .refused 13 (omega arith) (omega arith) .0 stranger-refused
+pub F-stranger : FirstAt partRules stranger (atRow 13 13 0)
+F-stranger = supplier-exact stranger .refused (atRow 13 13 0) (omega arith) (omega arith) .0 stranger-refused
 
 -- a sensor whose first value is 5, in a program of these modes
 abbrev sensing : List ℕ → Tables
 sensing periods = tables (pos sensor ∷ pos 5 ∷ []) [] [] [] [] (numbers periods) [] [] [] [] (pos 0)
 
 -- where that program is accepted, the fresh state has its sensor's first value
-sensing-accepted : freshAnswer (sensing (10 ∷ [])) .number ≡ 0
+sensing-accepted : freshAnswer (sensing (10 ∷ [])) .answer .number ≡ 0
 unfolding computed
 sensing-accepted = refl
 
@@ -66,26 +68,26 @@ unfolding computed
 sensing-five = refl
 
 -- where that program is refused, since it has no mode, the fresh state is all 0
-modeless-refused : freshAnswer (sensing []) .number ≡ 1
+modeless-refused : freshAnswer (sensing []) .answer ≡ placeless 1
 unfolding computed
 modeless-refused = refl
 
-pub modeless-first : First programRules (sensing []) 1
-modeless-first = fresh-exact (sensing []) .number 1 .0 modeless-refused
+pub modeless-first : FirstAt programRules (sensing []) (placeless 1)
+modeless-first = fresh-exact (sensing []) .answer (placeless 1) .0 modeless-refused
 
 pub modeless-zero : AllZero (freshAnswer (sensing []) .state)
-modeless-zero = fresh-exact (sensing []) .refused (λ e. omega (arith, e, modeless-refused))
+modeless-zero = fresh-exact (sensing []) .refused (λ e. omega (arith, e, ap (λ (x : Answer). x .number) modeless-refused))
 
 -- compiling F into 50 words: 17 instructions need 51
 abbrev cramped : Compiling
 cramped = record { tables = programF 6 2; slice = replicate 50 7 }
 
-cramped-refused : compileAnswer cramped .number ≡ 11
+cramped-refused : compileAnswer cramped .answer ≡ placeless 11
 unfolding computed
 cramped-refused = refl
 
-pub F-cramped : First compileRules cramped 11
-F-cramped = compile-exact cramped 11 .0 cramped-refused
+pub F-cramped : FirstAt compileRules cramped (placeless 11)
+F-cramped = compile-exact cramped (placeless 11) .0 cramped-refused
 
 pub F-cramped-keeps : (compileSlice cramped ≡ replicate 50 7) × (compileAnswer cramped .length ≡ 0)
-F-cramped-keeps = refusal-keeps cramped (λ e. omega (arith, e, cramped-refused))
+F-cramped-keeps = refusal-keeps cramped (λ e. omega (arith, e, ap (λ (x : Answer). x .number) cramped-refused))

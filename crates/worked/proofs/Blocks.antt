@@ -2,7 +2,9 @@
 -- block, rows passed together; and the same at the answer of a supplier's verdict.
 use mathlib.Core.Path.{_≡_, refl}
 use mathlib.Core.List.{[], _∷_}
+use Rattle.theory.specs.Rows.{placeless}
 use Rattle.runs.specs.Tick.{rest, work}
+use Rattle.suppliers.specs.Supplier.{atTick}
 use Rattle.worked.specs.Computed.{computed}
 use Rattle.worked.specs.Blocks.{dispatchTo, idleTo, from, acts, place, cutOffAnswer}
 
@@ -50,25 +52,25 @@ completes-then : acts (dispatchTo 0 0 ∷ dispatchTo 1 6 ∷ dispatchTo 2 6 ∷ 
 completes-then = refl
 
 -- F's supplier, as it is judged: windows 1..4 and 5..10 hold just the ticks in which it runs
-just-these : cutOffAnswer 4 1 4 5 10 ≡ record { number = 0; mode = 0; tick = 0 }
+just-these : cutOffAnswer 4 1 4 5 10 ≡ placeless 0
 unfolding computed
 just-these = refl
 
 -- a tick more of t1 has no time left to end in
-no-tick-more : cutOffAnswer 5 1 4 5 10 ≡ record { number = 15; mode = 0; tick = 10 }
+no-tick-more : cutOffAnswer 5 1 4 5 10 ≡ atTick 15 0 10
 unfolding computed
 no-tick-more = refl
 
 -- F's supplier runs in tick 1, after the idle row, and in tick 3, cut off at 4
-after-the-idle : cutOffAnswer 4 2 4 5 10 ≡ record { number = 14; mode = 0; tick = 1 }
+after-the-idle : cutOffAnswer 4 2 4 5 10 ≡ atTick 14 0 1
 unfolding computed
 after-the-idle = refl
 
-until-cut-off : cutOffAnswer 4 1 3 5 10 ≡ record { number = 14; mode = 0; tick = 3 }
+until-cut-off : cutOffAnswer 4 1 3 5 10 ≡ atTick 14 0 3
 unfolding computed
 until-cut-off = refl
 
 -- F's supplier runs in tick 9, where what was cut off goes on in the second block
-until-the-end : cutOffAnswer 4 1 4 5 9 ≡ record { number = 14; mode = 0; tick = 9 }
+until-the-end : cutOffAnswer 4 1 4 5 9 ≡ atTick 14 0 9
 unfolding computed
 until-the-end = refl

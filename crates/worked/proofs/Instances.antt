@@ -5,6 +5,7 @@ use mathlib.Core.List.{[], _∷_}
 use native.Mathlib.Omega.{arith}
 use lib.IntN.{pos}
 use lib.ListN.{length}
+use Rattle.theory.specs.Rows.{placeless}
 use Rattle.theory.specs.Verdict.{Keep}
 use Rattle.cells.specs.Cell.{numAt}
 use Rattle.cells.proofs.Names.{past-end}
@@ -56,7 +57,7 @@ pub F-part : partVerdict F-asked ≡ 0
 unfolding computed
 F-part = refl
 
-F-answer : supplierVerdict F-asked ≡ record { number = 0; mode = 0; tick = 0 }
+F-answer : supplierVerdict F-asked ≡ placeless 0
 unfolding computed
 F-answer = refl
 

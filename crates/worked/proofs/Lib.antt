@@ -10,6 +10,7 @@ pub mod Walk
 pub mod Advances
 pub mod Refused
 pub mod Answers
+pub mod Places
 pub mod Composed
 pub mod Pair
 pub mod Uses

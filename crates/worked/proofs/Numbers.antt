@@ -1,10 +1,11 @@
--- Document 01's numbers, where a name stands for them elsewhere: the most rows of each table, the refusal numbers, F's tables and code as
--- plain numbers, a program for each refusal of a program and of windows, and the fields at their limits.
-use Prim.Native.Nat.{ℕ}
+-- Document 01's numbers, where a name stands for them elsewhere: the most rows of each table, the refusal and table numbers, F's tables and
+-- code as plain numbers, a program for each refusal of a program and of windows with the row that it names, and the fields at their limits.
 use mathlib.Core.Path.{_≡_, refl}
 use mathlib.Core.List.{List, [], _∷_}
 use lib.IntN.{ℤ}
+use Rattle.theory.specs.Rows.{placeless, atRow}
 use Rattle.theory.specs.Verdict.{acceptedNumber}
+use Rattle.theory.specs.declared.Answer.{Answer}
 use Rattle.cells.specs.Limits.{maxPorts, maxTasks, maxTaskPorts, maxDrivers, maxCopies, maxModes, maxModePorts, maxInvocations}
 use Rattle.cells.specs.Limits.{maxUpdates, maxSwitches, maxWindows, maxPart, maxSchedule, maxUnits, maxCode, maxDelay, maxElapsed}
 use Rattle.cells.specs.Limits.{maxRemaining, maxLeft}
@@ -12,10 +13,12 @@ use Rattle.cells.specs.Refusals.{shapeRefused, fieldsRefused, taskPortsRefused,
 use Rattle.cells.specs.Refusals.{updatesRefused, switchesRefused, unitsRefused, wholeRefused, codeRefused, windowsRefused, scheduleRefused}
 use Rattle.cells.specs.Refusals.{outsideRefused, lateRefused, timeRefused, overrunRefused, collisionRefused, faultyRefused}
 use Rattle.cells.specs.Refusals.{countRefused, stateRefused}
-use Rattle.rules.specs.Verdict.{programVerdict}
+use Rattle.program.specs.Tables.{portsAt, tasksAt, taskPortsAt, driversAt, copiesAt, modesAt, modePortsAt, invocationsAt, updatesAt}
+use Rattle.program.specs.Tables.{switchesAt, windowsAt, scheduleAt, startAt, supplierAt}
+use Rattle.rules.specs.Verdict.{programAnswer}
 use Rattle.code.specs.Op.{emit}
 use Rattle.code.specs.Compile.{listingOf}
-use Rattle.suppliers.specs.Windows.{windowsVerdict}
+use Rattle.suppliers.specs.Windows.{windowsAnswer}
 use Rattle.worked.specs.Computed.{computed}
 use Rattle.worked.specs.Programs.{numbers, programF}
 use Rattle.worked.specs.Broken.{extended, bounded, twoWindows}
@@ -38,6 +41,13 @@ refusal-numbers :
     ∷ lateRefused ∷ timeRefused ∷ overrunRefused ∷ collisionRefused ∷ faultyRefused ∷ countRefused ∷ stateRefused ∷ []
     ≡ 0 ∷ 1 ∷ 2 ∷ 3 ∷ 4 ∷ 5 ∷ 6 ∷ 7 ∷ 8 ∷ 9 ∷ 10 ∷ 11 ∷ 12 ∷ 13 ∷ 14 ∷ 15 ∷ 16 ∷ 17 ∷ 18 ∷ 19 ∷ 20 ∷ 21 ∷ []
 refusal-numbers = refl
+
+-- the tables as a place names them, in the order of 01's table; then the start mode, and the supplier asked about
+table-numbers :
+    portsAt ∷ tasksAt ∷ taskPortsAt ∷ driversAt ∷ copiesAt ∷ modesAt ∷ modePortsAt ∷ invocationsAt ∷ updatesAt ∷ switchesAt ∷ windowsAt
+    ∷ scheduleAt ∷ startAt ∷ supplierAt ∷ []
+    ≡ 0 ∷ 1 ∷ 2 ∷ 3 ∷ 4 ∷ 5 ∷ 6 ∷ 7 ∷ 8 ∷ 9 ∷ 10 ∷ 11 ∷ 12 ∷ 13 ∷ []
+table-numbers = refl
 
 -- F's ports: 0 sensor, 1 actuator, 2 task input, 3 task output, each with its first value 0; its drivers: guard kind 0 and three zeros
 F-ports : programF 6 2 .ports
@@ -71,105 +81,105 @@ unfolding computed
 F-words = refl
 
 -- F with nothing added is accepted
-untouched : programVerdict (extended [] [] [] [] [] 0) ≡ 0
+untouched : programAnswer (extended [] [] [] [] [] 0) ≡ placeless 0
 unfolding computed
 untouched = refl
 
 -- 2: a start mode that is none
-no-such-mode : programVerdict (extended [] [] [] [] [] 1) ≡ 2
+no-such-mode : programAnswer (extended [] [] [] [] [] 1) ≡ atRow 2 12 0
 unfolding computed
 no-such-mode = refl
 
 -- 3: a task port row repeats; names the actuator; an input of the first task serves the second too
-task-port-repeats : programVerdict (extended (0 ∷ 2 ∷ []) [] [] [] [] 0) ≡ 3
+task-port-repeats : programAnswer (extended (0 ∷ 2 ∷ []) [] [] [] [] 0) ≡ atRow 3 2 9
 unfolding computed
 task-port-repeats = refl
 
-task-port-actuator : programVerdict (extended (0 ∷ 1 ∷ []) [] [] [] [] 0) ≡ 3
+task-port-actuator : programAnswer (extended (0 ∷ 1 ∷ []) [] [] [] [] 0) ≡ atRow 3 2 9
 unfolding computed
 task-port-actuator = refl
 
-input-of-two : programVerdict (extended (1 ∷ 2 ∷ []) [] [] [] [] 0) ≡ 3
+input-of-two : programAnswer (extended (1 ∷ 2 ∷ []) [] [] [] [] 0) ≡ atRow 3 2 9
 unfolding computed
 input-of-two = refl
 
 -- 4: the update's driver has two copies to the actuator
-two-copies : programVerdict (extended [] (2 ∷ 9 ∷ 1 ∷ []) [] [] [] 0) ≡ 4
+two-copies : programAnswer (extended [] (2 ∷ 9 ∷ 1 ∷ []) [] [] [] 0) ≡ atRow 4 4 6
 unfolding computed
 two-copies = refl
 
 -- 5: a mode port row repeats; names an input
-mode-port-repeats : programVerdict (extended [] [] (0 ∷ 7 ∷ []) [] [] 0) ≡ 5
+mode-port-repeats : programAnswer (extended [] [] (0 ∷ 7 ∷ []) [] [] 0) ≡ atRow 5 6 5
 unfolding computed
 mode-port-repeats = refl
 
-mode-port-input : programVerdict (extended [] [] (0 ∷ 2 ∷ []) [] [] 0) ≡ 5
+mode-port-input : programAnswer (extended [] [] (0 ∷ 2 ∷ []) [] [] 0) ≡ atRow 5 6 5
 unfolding computed
 mode-port-input = refl
 
 -- 6: a task twice in a mode; a driver that copies to another place too
-task-twice : programVerdict (extended [] [] [] (0 ∷ 1 ∷ 0 ∷ 0 ∷ []) [] 0) ≡ 6
+task-twice : programAnswer (extended [] [] [] (0 ∷ 1 ∷ 0 ∷ 0 ∷ []) [] 0) ≡ atRow 6 7 2
 unfolding computed
 task-twice = refl
 
-too-many-inputs : programVerdict (extended [] (0 ∷ 7 ∷ 4 ∷ []) [] [] [] 0) ≡ 6
+too-many-inputs : programAnswer (extended [] (0 ∷ 7 ∷ 4 ∷ []) [] [] [] 0) ≡ atRow 6 7 0
 unfolding computed
 too-many-inputs = refl
 
 -- 7: two updates share the actuator; one copies to an input
-actuator-of-two : programVerdict (extended [] [] [] [] (0 ∷ 1 ∷ 2 ∷ []) 0) ≡ 7
+actuator-of-two : programAnswer (extended [] [] [] [] (0 ∷ 1 ∷ 2 ∷ []) 0) ≡ atRow 7 8 1
 unfolding computed
 actuator-of-two = refl
 
-update-of-input : programVerdict (extended [] (2 ∷ 9 ∷ 2 ∷ []) [] [] [] 0) ≡ 7
+update-of-input : programAnswer (extended [] (2 ∷ 9 ∷ 2 ∷ []) [] [] [] 0) ≡ atRow 7 8 0
 unfolding computed
 update-of-input = refl
 
 -- fields at their limits pass, and one beyond is 2: supplier 7, worst-case time 4,096, period 4,096, frequency 64
-at-limits : programVerdict (bounded 7 4096 4096 64) ≡ 0
+at-limits : programAnswer (bounded 7 4096 4096 64) ≡ placeless 0
 unfolding computed
 at-limits = refl
 
-supplier-8 : programVerdict (bounded 8 4096 4096 64) ≡ 2
+supplier-8 : programAnswer (bounded 8 4096 4096 64) ≡ atRow 2 1 0
 unfolding computed
 supplier-8 = refl
 
-worst-4097 : programVerdict (bounded 7 4097 4096 64) ≡ 2
+worst-4097 : programAnswer (bounded 7 4097 4096 64) ≡ atRow 2 1 0
 unfolding computed
 worst-4097 = refl
 
-worst-0 : programVerdict (bounded 7 0 4096 64) ≡ 2
+worst-0 : programAnswer (bounded 7 0 4096 64) ≡ atRow 2 1 0
 unfolding computed
 worst-0 = refl
 
-period-4097 : programVerdict (bounded 7 4096 4097 1) ≡ 2
+period-4097 : programAnswer (bounded 7 4096 4097 1) ≡ atRow 2 5 0
 unfolding computed
 period-4097 = refl
 
-frequency-65 : programVerdict (bounded 7 4096 4096 65) ≡ 2
+frequency-65 : programAnswer (bounded 7 4096 4096 65) ≡ atRow 2 8 0
 unfolding computed
 frequency-65 = refl
 
-frequency-0 : programVerdict (bounded 7 4096 4096 0) ≡ 2
+frequency-0 : programAnswer (bounded 7 4096 4096 0) ≡ atRow 2 8 0
 unfolding computed
 frequency-0 = refl
 
 -- 12: windows of two suppliers may meet, and may not share a tick, be empty or leave the round
-windows : List ℤ → ℕ
-windows W = windowsVerdict (record { tables = programF 6 2; windows = W })
+windows : List ℤ → Answer
+windows W = windowsAnswer (record { tables = programF 6 2; windows = W })
 
-windows-meet : windows (twoWindows 0 5 5 10) ≡ 0
+windows-meet : windows (twoWindows 0 5 5 10) ≡ placeless 0
 unfolding computed windows
 windows-meet = refl
 
-windows-share : windows (twoWindows 0 6 5 10) ≡ 12
+windows-share : windows (twoWindows 0 6 5 10) ≡ atRow 12 10 1
 unfolding computed windows
 windows-share = refl
 
-window-empty : windows (twoWindows 5 5 5 10) ≡ 12
+window-empty : windows (twoWindows 5 5 5 10) ≡ atRow 12 10 0
 unfolding computed windows
 window-empty = refl
 
-window-too-long : windows (twoWindows 0 5 5 11) ≡ 12
+window-too-long : windows (twoWindows 0 5 5 11) ≡ atRow 12 10 1
 unfolding computed windows
 window-too-long = refl

@@ -6,7 +6,8 @@ use mathlib.Core.List.{List, [], _∷_}
 use mathlib.Core.Logic.{inr}
 use native.Mathlib.Omega.{arith}
 use lib.ListN.{replicate}
-use Rattle.theory.specs.Verdict.{First, Keep}
+use Rattle.theory.specs.Rows.{placeless}
+use Rattle.theory.specs.Verdict.{FirstAt, Keep}
 use Rattle.machine.specs.declared.State.{State}
 use Rattle.machine.specs.Change.{withLeft}
 use Rattle.machine.specs.Advance.{Advance, advanceRules, advanceAnswer}
@@ -36,7 +37,7 @@ slow = record {
   lent = lentTo F-system mix readings (times (7 ∷ 2 ∷ [])) 0 F-fresh;
 }
 
-slow-refused : advanceAnswer slow .number ≡ 16
+slow-refused : advanceAnswer slow .answer .number ≡ 16
 unfolding computed
 slow-refused = refl
 
@@ -47,7 +48,7 @@ F-time-wrong = time-exact slow .0 slow-refused
 abbrev late : Advance
 late = from (withLeft F-fresh (1 ∷ replicate 31 0))
 
-late-refused : advanceAnswer late .number ≡ 17
+late-refused : advanceAnswer late .answer .number ≡ 17
 unfolding computed
 late-refused = refl
 
@@ -74,7 +75,7 @@ both = record {
   lent = F-first .lent;
 }
 
-both-refused : advanceAnswer both .number ≡ 18
+both-refused : advanceAnswer both .answer .number ≡ 18
 unfolding computed
 both-refused = refl
 
@@ -85,21 +86,21 @@ monitor-collides = collision-exact both .0 both-refused
 abbrev unknown : Advance
 unknown = running (6 ∷ 0 ∷ 0 ∷ [])
 
-unknown-refused : advanceAnswer unknown .number ≡ 19
+unknown-refused : advanceAnswer unknown .answer .number ≡ 19
 unfolding computed
 unknown-refused = refl
 
 pub F-unknown : Keep advanceRules unknown × Faults unknown
 F-unknown = faulty-exact unknown .0 unknown-refused
 
-unused-refused : advanceAnswer (running (4 ∷ 5 ∷ 0 ∷ 5 ∷ 0 ∷ 1 ∷ [])) .number ≡ 19
+unused-refused : advanceAnswer (running (4 ∷ 5 ∷ 0 ∷ 5 ∷ 0 ∷ 1 ∷ [])) .answer .number ≡ 19
 unfolding computed
 unused-refused = refl
 
 abbrev open-ended : Advance
 open-ended = running (0 ∷ 0 ∷ 0 ∷ [])
 
-open-ended-refused : advanceAnswer open-ended .number ≡ 19
+open-ended-refused : advanceAnswer open-ended .answer .number ≡ 19
 unfolding computed
 open-ended-refused = refl
 
@@ -110,7 +111,7 @@ F-open-ended = faulty-exact open-ended .0 open-ended-refused
 abbrev undeclared : Advance
 undeclared = running (1 ∷ 5 ∷ 0 ∷ [])
 
-undeclared-refused : advanceAnswer undeclared .number ≡ 19
+undeclared-refused : advanceAnswer undeclared .answer .number ≡ 19
 unfolding computed
 undeclared-refused = refl
 
@@ -127,7 +128,7 @@ slow-late = record {
   lent = slow .lent;
 }
 
-slow-late-refused : advanceAnswer slow-late .number ≡ 16
+slow-late-refused : advanceAnswer slow-late .answer .number ≡ 16
 unfolding computed
 slow-late-refused = refl
 
@@ -138,7 +139,7 @@ F-slow-late = time-exact slow-late .0 slow-late-refused
 abbrev circling : Advance
 circling = running (3 ∷ 0 ∷ 0 ∷ [])
 
-circling-refused : advanceAnswer circling .number ≡ 20
+circling-refused : advanceAnswer circling .answer .number ≡ 20
 unfolding computed
 circling-refused = refl
 
@@ -149,7 +150,7 @@ F-runs-on = count-exact circling .0 circling-refused
 abbrev again : Advance
 again = running (4 ∷ 5 ∷ 0 ∷ 3 ∷ 0 ∷ 0 ∷ [])
 
-again-refused : advanceAnswer again .number ≡ 20
+again-refused : advanceAnswer again .answer .number ≡ 20
 unfolding computed
 again-refused = refl
 
@@ -170,12 +171,16 @@ lost = from (record {
   positions = replicate 8 0;
 })
 
-lost-refused : advanceAnswer lost .number ≡ 21
+lost-refused : advanceAnswer lost .answer .number ≡ 21
 unfolding computed
 lost-refused = refl
 
 pub F-lost-kept : advanceAnswer lost .state ≡ lost .state
 F-lost-kept = advance-exact lost .kept (λ e. omega (arith, e, lost-refused))
 
-pub F-lost : First advanceRules lost 21
-F-lost = advance-exact lost .judged 21 (inr refl) .0 lost-refused
+lost-placeless : advanceAnswer lost .answer ≡ placeless 21
+unfolding computed
+lost-placeless = refl
+
+pub F-lost : FirstAt advanceRules lost (placeless 21)
+F-lost = advance-exact lost .judged (placeless 21) (inr refl) .0 lost-placeless

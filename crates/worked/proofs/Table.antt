@@ -1,4 +1,4 @@
--- Document 01's worked table: every row marked (P), as a theorem about the definitions.
+-- Document 01's worked table: every row marked (P), as a theorem about the definitions, with the place that a refusal names.
 use mathlib.Core.Path.{_≡_, refl}
 use mathlib.Core.Bool.{false}
 use mathlib.Core.List.{[], _∷_}
@@ -6,10 +6,11 @@ use lib.IntN.{pos, negsuc}
 use lib.ListN.{length}
 use Rattle.readings.specs.Reading.{noReading, inside}
 use Rattle.program.specs.Units.{units}
-use Rattle.rules.specs.Verdict.{programVerdict}
+use Rattle.theory.specs.Rows.{placeless, atRow}
+use Rattle.rules.specs.Verdict.{programVerdict, programAnswer}
 use Rattle.code.specs.Op.{call, schedule, jump, future, return}
 use Rattle.code.specs.Compile.{listingOf}
-use Rattle.suppliers.specs.Supplier.{supplierVerdict}
+use Rattle.suppliers.specs.Supplier.{atTick, supplierVerdict}
 use Rattle.worked.specs.Computed.{computed}
 use Rattle.worked.specs.Programs.{programF, bare, updated, guarded, intervalRow, switching, window, asked}
 use Rattle.worked.specs.Programs as programs
@@ -56,11 +57,11 @@ unfolding computed
 bare-length = (refl, refl)
 
 -- frequencies 3 and 64: 9; frequency 2, period 9: 9
-frequencies-3-and-64 : programVerdict (updated 192 (3 ∷ 64 ∷ [])) ≡ 9
+frequencies-3-and-64 : programAnswer (updated 192 (3 ∷ 64 ∷ [])) ≡ atRow 9 5 0
 unfolding computed
 frequencies-3-and-64 = refl
 
-frequency-2-period-9 : programVerdict (updated 9 (2 ∷ [])) ≡ 9
+frequency-2-period-9 : programAnswer (updated 9 (2 ∷ [])) ≡ atRow 9 5 0
 unfolding computed
 frequency-2-period-9 = refl
 
@@ -69,11 +70,11 @@ guards-apart : programVerdict (guarded (intervalRow 0 (pos 0) (pos 5)) (interval
 unfolding computed
 guards-apart = refl
 
-guards-meet : programVerdict (guarded (intervalRow 0 (pos 0) (pos 5)) (intervalRow 0 (pos 5) (pos 9))) ≡ 8
+guards-meet : programAnswer (guarded (intervalRow 0 (pos 0) (pos 5)) (intervalRow 0 (pos 5) (pos 9))) ≡ atRow 8 9 1
 unfolding computed
 guards-meet = refl
 
-guards-on-two-ports : programVerdict (guarded (intervalRow 0 (pos 0) (pos 5)) (intervalRow 1 (pos 6) (pos 9))) ≡ 8
+guards-on-two-ports : programAnswer (guarded (intervalRow 0 (pos 0) (pos 5)) (intervalRow 1 (pos 6) (pos 9))) ≡ atRow 8 9 1
 unfolding computed
 guards-on-two-ports = refl
 
@@ -82,7 +83,7 @@ no-reading-outside : inside (negsuc 2147483646) noReading (pos 2147483647) ≡ f
 unfolding computed
 no-reading-outside = refl
 
-low-no-reading-high-0 : programVerdict (guarded (intervalRow 0 noReading (pos 0)) (intervalRow 0 (pos 6) (pos 9))) ≡ 2
+low-no-reading-high-0 : programAnswer (guarded (intervalRow 0 noReading (pos 0)) (intervalRow 0 (pos 6) (pos 9))) ≡ atRow 2 3 0
 unfolding computed
 low-no-reading-high-0 = refl
 
@@ -91,27 +92,27 @@ task-2-switch-1 : programVerdict (switching 2 1) ≡ 0
 unfolding computed
 task-2-switch-1 = refl
 
-task-3-switch-2 : programVerdict (switching 3 2) ≡ 10
+task-3-switch-2 : programAnswer (switching 3 2) ≡ atRow 10 9 0
 unfolding computed
 task-3-switch-2 = refl
 
 -- F, one supplier, t2 worst 2, both blocks dispatch t2 then t1 unless it says so, all timeouts 5
 -- t1 worst 6 passes
-pub t1-worst-6 : supplierVerdict (asked 6 (window 0 10) (programs.schedule 1 0)) ≡ record { number = 0; mode = 0; tick = 0 }
+pub t1-worst-6 : supplierVerdict (asked 6 (window 0 10) (programs.schedule 1 0)) ≡ placeless 0
 unfolding computed
 t1-worst-6 = refl
 
 -- t1 worst 7: 15 at tick 10
-pub t1-worst-7 : supplierVerdict (asked 7 (window 0 10) (programs.schedule 1 0)) ≡ record { number = 15; mode = 0; tick = 10 }
+pub t1-worst-7 : supplierVerdict (asked 7 (window 0 10) (programs.schedule 1 0)) ≡ atTick 15 0 10
 unfolding computed
 t1-worst-7 = refl
 
 -- t1 worst 6, window 0..9: 14 at tick 9
-pub window-to-9 : supplierVerdict (asked 6 (window 0 9) (programs.schedule 1 0)) ≡ record { number = 14; mode = 0; tick = 9 }
+pub window-to-9 : supplierVerdict (asked 6 (window 0 9) (programs.schedule 1 0)) ≡ atTick 14 0 9
 unfolding computed
 window-to-9 = refl
 
 -- t1 first, t1 worst 4: 15 at tick 5
-pub t1-first : supplierVerdict (asked 4 (window 0 10) (programs.schedule 0 1)) ≡ record { number = 15; mode = 0; tick = 5 }
+pub t1-first : supplierVerdict (asked 4 (window 0 10) (programs.schedule 0 1)) ≡ atTick 15 0 5
 unfolding computed
 t1-first = refl

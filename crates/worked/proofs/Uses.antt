@@ -147,7 +147,7 @@ F-second-uses rs ts r t = same-within second within rs ts (sym r) (sym t)
 abbrev far : Advance
 far = advance 0 (withLeft (freshAnswer (programF 6 2) .state) (5000 ∷ replicate 31 0))
 
-far-refused : advanceAnswer far .number ≡ 21
+far-refused : advanceAnswer far .answer .number ≡ 21
 unfolding computed
 far-refused = refl
 

@@ -12,8 +12,8 @@ use Rattle.layout.specs.Layout.{startIn}
 use Rattle.runs.specs.Schedule.{scheduleCount, reaches, reach, Sorted, Behind, found, spanOf, rowsOf, blockOf}
 use Rattle.runs.specs.Round.{worstBreak, nothing}
 use Rattle.runs.proofs.Blocks.{behind-none, behind-later, found-behind, block-found}
-use Rattle.suppliers.specs.Schedule.{partBad, joinedBad}
-use Rattle.suppliers.specs.Delays.{countedDelays, partBadBy, joinedBadBy}
+use Rattle.suppliers.specs.Schedule.{partTests, partBad, joinedTests}
+use Rattle.suppliers.specs.Delays.{countedDelays, partTestsIn, joinedTestsIn}
 use Rattle.suppliers.specs.Supplier.{answerFrom, judged}
 use Rattle.suppliers.proofs.Schedule.{part-bars}
 use Rattle.suppliers.proofs.Delays.{part-counted, joined-counted}
@@ -52,10 +52,10 @@ second-block =
     block-found rows 0 15 (found rows 0 0 9 .end) in-order (omega (arith, first-end)) behind
 
 -- F's part is held against its counted delays as against its listing; so is the schedule of its only part
-pub F-delays : partBadBy (programF 6 2) (countedDelays (programF 6 2)) rows 0 ≡ partBad (programF 6 2) rows 0
+pub F-delays : partTestsIn (programF 6 2) (countedDelays (programF 6 2)) rows 0 ≡ partTests (programF 6 2) rows 0
 F-delays = part-counted (programF 6 2) F-verdict (omega (arith, F-length)) rows 0
 
-pub F-joined-delays : joinedBadBy (programF 6 2) (countedDelays (programF 6 2)) rows ≡ joinedBad (programF 6 2) rows
+pub F-joined-delays : joinedTestsIn (programF 6 2) (countedDelays (programF 6 2)) rows ≡ joinedTests (programF 6 2) rows
 F-joined-delays = joined-counted (programF 6 2) F-verdict (omega (arith, F-length)) rows
 
 -- F's run, as it is counted from the tables with its one sensor

@@ -4,7 +4,7 @@ use mathlib.Core.List.{List, [], _∷_}
 use lib.IntN.{ℤ}
 use Rattle.runs.specs.Tick.{dispatch, idle, Row, Act, Place, doing, tick}
 use Rattle.suppliers.specs.Supplier.{supplierVerdict}
-use Rattle.suppliers.specs.declared.Answer.{Answer}
+use Rattle.theory.specs.declared.Answer.{Answer}
 use Rattle.worked.specs.Programs.{numbers, asked}
 
 -- a row that dispatches a job up to a timeout, and one that idles up to it

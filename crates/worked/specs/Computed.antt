@@ -13,16 +13,16 @@ use Rattle.rules.specs.Modes.{someSource, someDestination, unreadable, invocati
 use Rattle.rules.specs.Modes.{updateWrong, updatesBad, switchClash, switchWrong, switchesBad}
 use Rattle.rules.specs.Shape.{badSlice, badLength, shapeBad}
 use Rattle.rules.specs.Timing.{unitsWrong, unitsBad, notWhole, wholeWrong, wholeBad}
-use Rattle.rules.specs.Verdict.{programVerdict}
+use Rattle.rules.specs.Verdict.{programVerdict, programAnswer}
 use Rattle.code.specs.Compile.{listingOf, codeLong, sliceShort, compileVerdict}
 use Rattle.code.specs.Listing.{listing}
 use Rattle.runs.specs.Windows.{windowHas, inWindow, shareTick}
-use Rattle.suppliers.specs.Schedule.{dispatchFits, idleFits, precedes, rowWrong, rowsBad, partBad, rowCount, joinedBad}
-use Rattle.suppliers.specs.Supplier.{partShapeBad, partVerdict, supplierVerdict}
-use Rattle.suppliers.specs.Windows.{windowWrong, windowsBad, windowsShapeBad, windowsVerdict}
+use Rattle.suppliers.specs.Schedule.{dispatchFits, idleFits, precedes, rowWrong, partBad, rowCount, pastPart, joinedBad}
+use Rattle.suppliers.specs.Supplier.{partShapeBad, partVerdict, partAnswer, supplierVerdict}
+use Rattle.suppliers.specs.Windows.{windowWrong, windowsBad, windowsShapeBad, windowsVerdict, windowsAnswer}
 use Rattle.machine.specs.Advance.{freshAnswer, advanceShapeBad, stateOut, advanceVerdict, advanceAnswer}
-use Rattle.text.specs.Shipped.{shipped}
+use Rattle.text.specs.Shipped.{answerLine, shipped}
 
 unfoldable pub computed : Unit {0}
-unfolding any firstFrom first nameOf numAt nameAt wordAt inside isMissing isValue isKind isTaskPort modePortAt isInput isOutput isModePort copiesFrom copiesTo isSource isDestination misses rowMisses isMultiple units samePort taskPortClash taskPortsBad copyClash copiesBad modePortClash modePortsBad inRange portBad taskBad taskPortBad alwaysFits intervalFits driverBad copyBad modeBad modePortBad invocationBad updateBad switchBad startBad fieldsBad ownPort outputWith inputWith portWith sourceWith destinationWith someOutput someInput somePort someSource someDestination unreadable invocationClash invocationWrong invocationsBad updateClash updateWrong updatesBad switchClash switchWrong switchesBad badSlice badLength shapeBad unitsWrong unitsBad notWhole wholeWrong wholeBad programVerdict listingOf codeLong sliceShort compileVerdict listing windowHas inWindow shareTick dispatchFits idleFits precedes rowWrong rowsBad partBad rowCount joinedBad partShapeBad partVerdict supplierVerdict windowWrong windowsBad windowsShapeBad windowsVerdict freshAnswer advanceShapeBad stateOut advanceVerdict advanceAnswer shipped
+unfolding any firstFrom first nameOf numAt nameAt wordAt inside isMissing isValue isKind isTaskPort modePortAt isInput isOutput isModePort copiesFrom copiesTo isSource isDestination misses rowMisses isMultiple units samePort taskPortClash taskPortsBad copyClash copiesBad modePortClash modePortsBad inRange portBad taskBad taskPortBad alwaysFits intervalFits driverBad copyBad modeBad modePortBad invocationBad updateBad switchBad startBad fieldsBad ownPort outputWith inputWith portWith sourceWith destinationWith someOutput someInput somePort someSource someDestination unreadable invocationClash invocationWrong invocationsBad updateClash updateWrong updatesBad switchClash switchWrong switchesBad badSlice badLength shapeBad unitsWrong unitsBad notWhole wholeWrong wholeBad programVerdict programAnswer listingOf codeLong sliceShort compileVerdict listing windowHas inWindow shareTick dispatchFits idleFits precedes rowWrong partBad rowCount pastPart joinedBad partShapeBad partVerdict partAnswer supplierVerdict windowWrong windowsBad windowsShapeBad windowsVerdict windowsAnswer freshAnswer advanceShapeBad stateOut advanceVerdict advanceAnswer answerLine shipped
 computed = tt

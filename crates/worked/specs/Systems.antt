@@ -139,7 +139,7 @@ agrees Y F rs ts zero n s C = true
 agrees Y F rs ts (suc k) n s C =
     let a = advanced Y (lentTo Y F rs ts n s) s in
     let D = pass (programOf (Y .tables)) F n (rs n) C in
-    elim (a .number) [
+    elim (a .answer .number) [
       | zero ↦ elim (same (a .state .ports) (D .ports)) [ true ↦ agrees Y F rs ts k (suc n) (a .state) D | false ↦ false ]
       | suc v ↦ false
     ]

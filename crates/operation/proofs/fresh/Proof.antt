@@ -1,10 +1,11 @@
--- `operation::fresh` meets its contract: the program's number, or a state with its first values.
-use mathlib.Core.Path.{refl, sym, ap, _∙_}
+-- `operation::fresh` meets its contract: the answer on the program, or a state with its first values.
+use mathlib.Core.Path.{_≡_, refl, ap, _∙_}
 use native.Mathlib.Omega.{arith}
 use borrow.Author.Needs.{needs}
-use Rattle.theory.specs.Verdict.{acceptedNumber}
+use Rattle.theory.specs.declared.Answer.{Answer}
 use Rattle.program.specs.Tables.{Tables, tablesIn}
-use Rattle.machine.specs.declared.State.{State}
+use Rattle.rules.specs.Verdict.{programVerdict}
+use Rattle.rules.proofs.Verdict.{program-number}
 use Rattle.machine.specs.Advance.{stateOf}
 use Rattle.machine.proofs.Answered.{fresh-refused, fresh-accepted}
 use Rattle.operation.proofs.fresh.Statement.{statement}
@@ -14,6 +15,10 @@ use Rattle.operation.proofs.fresh.Tie as tie
 abbrev lent : tie.Start → Tables
 lent c = tablesIn (c .args .tables .now) (c .args .program .start)
 
+-- the number that was answered is the program's verdict
+told : (c : tie.After-program-verdict) → c .program-verdict .result .number ≡ programVerdict (lent (c .before))
+told c = ap (λ (x : Answer). x .number) (c .program-verdict .ensures) ∙ program-number (lent (c .before))
+
 program-verdict-requires : tie.Need-program-verdict-requires
 program-verdict-requires c κs = search needs
 
@@ -22,9 +27,10 @@ begun-requires c κs = search needs
 
 returns : tie.Need-returns
 returns c =
-    let v = c .before .before in
-    ap (λ (u : State). record { number = v .program-verdict .result; state = u }) (c .begun .ensures)
-    ∙ fresh-refused (lent (v .before)) (v .program-verdict .result) (v .program-verdict .ensures) (c .before .if1 .taken)
+    let v = c .before .before .before in
+    let T = lent (v .before) in
+    (λ i. record { answer = v .program-verdict .ensures i; state = c .begun .ensures i })
+    ∙ fresh-refused T (omega (arith, c .before .if1 .taken, told v))
 
 element-copy-out-first-values : tie.Need-element-copy-out-first-values
 element-copy-out-first-values c = search needs
@@ -35,13 +41,19 @@ first-values-requires c κs = search needs
 begun-requires-2 : tie.Need-begun-requires-2
 begun-requires-2 c κs = search needs
 
+accepted-requires : tie.Need-accepted-requires
+accepted-requires c κs = search needs
+
 returns-2 : tie.Need-returns-2
 returns-2 c =
-    let v = c .before .before .before .before in
+    let b = c .before in
+    let v = b .before .before .before .before .before in
     let T = lent (v .before) in
-    ap (λ (u : State). record { number = acceptedNumber; state = u })
-    (c .begun2 .ensures ∙ ap stateOf (c .before .first-values .ensures T refl))
-    ∙ fresh-accepted T (sym (v .program-verdict .ensures) ∙ omega (arith, c .before .before .before .if1 .left))
+    (λ i. record {
+      answer = c .accepted .ensures i;
+      state = (b .begun2 .ensures ∙ ap stateOf (b .before .first-values .ensures T refl)) i;
+    })
+    ∙ fresh-accepted T (omega (arith, b .before .before .before .if1 .left, told v))
 
 pub fresh-spec : {M : Type 1} → statement M
 fresh-spec =
@@ -53,4 +65,5 @@ fresh-spec =
     element-copy-out-first-values
     first-values-requires
     begun-requires-2
+    accepted-requires
     returns-2)

@@ -31,25 +31,40 @@ into-blank r a code e f = let g = f ∙ ap (answerShown r) e in (g, ap textOfAns
 returns : tie.Need-returns
 unfolding heard answerShown
 returns c =
-    let s = c .before .before .before .before .before .before .before in
+    let s = c .before .before .before .before .before .before .before .before in
+    let k = c .before .before .before .compiled .ensures in
     into-blank (heard (fed (s .args .i) (s .args .room .now))) _ (s .args .code .now) (s .pre)
-    (simp (← c .before .before .before .before .before .complete .ensures, c .before .before .before .before .if1 .taken, c .before .before .compiled .ensures .0, c .before .before .compiled .ensures .1) refl)
+    (simp (← c .before .before .before .before .before .before .complete .ensures, c .before .before .before .before .before .if1 .taken, k .0, k .1) refl)
+
+refused-requires : tie.Need-refused-requires
+refused-requires c κs = search needs
 
 returns-2 : tie.Need-returns-2
 unfolding heard answerShown
 returns-2 c =
-    let s = c .before .before .before .before in
+    let s = c .before .before .before .before .before in
     into-blank (heard (fed (s .args .i) (s .args .room .now))) _ (s .args .code .now) (s .pre)
-    (simp (← c .before .before .complete .ensures, c .before .if1 .left, c .if2 .taken) refl)
+    (simp (← c .before .before .before .complete .ensures, c .before .before .if1 .left, c .before .if2 .taken, c .refused .ensures) refl)
+
+accepted-requires : tie.Need-accepted-requires
+accepted-requires c κs = search needs
 
 returns-3 : tie.Need-returns-3
 unfolding heard answerShown
 returns-3 c =
-    let s = c .before .before .before .before in
+    let s = c .before .before .before .before .before in
     into-blank (heard (fed (s .args .i) (s .args .room .now))) _ (s .args .code .now) (s .pre)
-    (simp (← c .before .before .complete .ensures, c .before .if1 .left, c .if2 .left) refl)
+    (simp (← c .before .before .before .complete .ensures, c .before .before .if1 .left, c .before .if2 .left, c .accepted .ensures) refl)
 
 pub answer-spec : {M : Type 1} → statement M
 answer-spec =
     tie.close
-    (tie.spec complete-requires compiled-requires same-length returns returns-2 returns-3)
+    (tie.spec
+    complete-requires
+    compiled-requires
+    same-length
+    returns
+    refused-requires
+    returns-2
+    accepted-requires
+    returns-3)

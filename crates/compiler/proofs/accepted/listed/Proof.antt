@@ -8,7 +8,7 @@ use Rattle.program.specs.Tables.{Tables, tablesIn}
 use Rattle.program.proofs.Decoded.{sensors-rows}
 use Rattle.layout.specs.Layout.{LaidOut}
 use Rattle.layout.proofs.Limits.{told-most, few-ports, few-sensors}
-use Rattle.compiler.specs.Listed.{compiling}
+use Rattle.compiler.specs.Listed.{compiling, refused}
 use Rattle.compiler.proofs.Outcomes.{listed-refused, long-told, all-written}
 use Rattle.compiler.proofs.accepted.listed.Statement.{statement}
 use Rattle.compiler.proofs.accepted.listed.Tie as tie
@@ -41,9 +41,13 @@ mul-if1 c = search needs
 
 returns : tie.Need-returns
 returns c start q a =
-    let l = c .before in
+    let l = c .before .before in
     let L = compiling (lent (start-of l) start) (start-of l .args .code .now) in
-    listed-refused L (sym (long-told L (l .lay-out .result .length) (laid l start .length)) ∙ c .if1 .taken)
+    ap (refused L) (c .refused .ensures)
+    ∙ listed-refused L (sym (long-told L (l .lay-out .result .length) (laid l start .length)) ∙ c .before .if1 .taken)
+
+refused-requires : tie.Need-refused-requires
+refused-requires c κs = search needs
 
 slice-aggregate-all : tie.Need-slice-aggregate-all
 slice-aggregate-all c = search needs
@@ -58,14 +62,20 @@ all-requires c κs =
     let small = l .lay-out .ensures .1 .1 in
     (s .pre .0, (λ m. omega (arith, small .starts m, small .entries m), (λ m. omega (arith, small .starts m, small .entries m), (l .before .sensors .ensures, s .pre .1))))
 
+accepted-requires : tie.Need-accepted-requires
+accepted-requires c κs = search needs
+
 same-length : tie.Need-same-length
 same-length c = search needs
 
 returns-2 : tie.Need-returns-2
 returns-2 c start q a =
-    let l = c .before .before .before .before .before .before .before .before .before in
+    let w = c .before .before .before in
+    let e = w .before .before .before .before .before .before in
+    let l = e .before in
     let s = start-of l in
-    all-written (lent s start) a (l .lay-out .result) (laid l start) q (s .args .code .now) _ _ (c .before .before .all .ensures start) (c .before .before .before .before .before .before .before .before .if1 .left)
+    all-written (lent s start) a (l .lay-out .result) (laid l start) q (s .args .code .now) _ _ (w .all .ensures start) (e .if1 .left)
+    (c .accepted .ensures)
 
 pub listed-spec : {M : Type 1} → statement M
 listed-spec =
@@ -75,9 +85,11 @@ listed-spec =
     sensors-requires
     lay-out-requires
     mul-if1
+    refused-requires
     returns
     slice-aggregate-all
     slice-aggregate-all-2
     all-requires
+    accepted-requires
     same-length
     returns-2)

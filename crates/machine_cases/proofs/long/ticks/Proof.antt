@@ -10,6 +10,9 @@ Inv-loop n l room code rows x readings results times at₀ i₀ at i = Unit {0}
 abbrev μ-loop : tie.MeasureT-loop
 μ-loop n l room code rows x readings results times at₀ i₀ at i = n - i
 
+accepted-requires : tie.Need-accepted-requires Inv-loop μ-loop
+accepted-requires c κs = search needs
+
 loop-holds : tie.Need-loop-holds Inv-loop μ-loop
 loop-holds c = search needs
 
@@ -37,6 +40,7 @@ ticks-spec =
     (tie.spec
     Inv-loop
     μ-loop
+    accepted-requires
     loop-holds
     returns
     advanced-requires

@@ -133,10 +133,14 @@ loop-again c =
           ),
     )
 
+accepted-requires : tie.Need-accepted-requires Inv-loop μ-loop
+accepted-requires c κs = search needs
+
 returns-2 : tie.Need-returns-2 Inv-loop μ-loop
 returns-2 c start =
-    let l = c .before .before .loop in
-    answering-all _ _ (l .m .0) (ltb-false _ _ (sym (c .before .declared .ensures) ∙ c .if1 .left)) (l .inv .1 start .1)
+    let l = c .before .before .before .loop in
+    c .accepted .ensures
+    ∙ answering-all _ _ (l .m .0) (ltb-false _ _ (sym (c .before .before .declared .ensures) ∙ c .before .if1 .left)) (l .inv .1 start .1)
 
 pub answer-spec : {M : Type 1} → statement M
 answer-spec =
@@ -155,4 +159,5 @@ answer-spec =
     next-requires
     loop-less
     loop-again
+    accepted-requires
     returns-2)

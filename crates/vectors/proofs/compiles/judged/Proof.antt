@@ -18,8 +18,8 @@ slice-aggregate-compiled c = sym (length-take-le _ _ (omega (arith, c .before .l
 compiled-requires : tie.Need-compiled-requires
 compiled-requires c κs = search needs
 
-digits-requires : tie.Need-digits-requires
-digits-requires c κs = search needs
+answer-requires : tie.Need-answer-requires
+answer-requires c κs = search needs
 
 same-length : tie.Need-same-length
 same-length c = search needs
@@ -65,7 +65,7 @@ judged-spec =
     slice-relend-prefix-compiled
     slice-aggregate-compiled
     compiled-requires
-    digits-requires
+    answer-requires
     same-length
     returns
     after-space-requires

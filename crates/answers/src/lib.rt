@@ -1,0 +1,38 @@
+// Answers: accepted, refused without a place, and what a search over the rows of a table comes to.
+ghost use mathlib.Core.Path.{_≡_};
+ghost use Rattle.theory.specs.Rows.{placeless};
+ghost use Rattle.theory.specs.Verdict.{acceptedNumber, found};
+use cells::refusals;
+use theory::Answer;
+
+// Accepted: no number, and no place.
+pub fn accepted() -> Answer
+    ensures { λ r. ⌜ r ≡ placeless acceptedNumber ⌝ }
+{
+    refused(refusals::ACCEPTED)
+}
+
+// This number without a place.
+pub fn refused(number: usize) -> Answer
+    ensures { λ r. ⌜ r ≡ placeless number ⌝ }
+{
+    Answer {
+        number,
+        outer: 0,
+        inner: 0,
+    }
+}
+
+// What a search over so many rows of a table comes to: this number at the row where it ended, or accepted where it found none.
+pub fn found(number: usize, table: usize, row: usize, count: usize) -> Answer
+    ensures { λ r. ⌜ r ≡ found number table row count ⌝ }
+{
+    if row < count {
+        return Answer {
+            number,
+            outer: table,
+            inner: row,
+        };
+    }
+    accepted()
+}

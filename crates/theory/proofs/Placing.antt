@@ -1,0 +1,38 @@
+-- The answer that the rows of several tables give for one number: that of the first table where it has a bad row, else that of the others;
+-- that of a table of one row; and where it accepts no row is bad, if the number is not that of acceptance.
+use Prim.Native.Nat.{ℕ}
+use mathlib.Core.Path.{_≡_, refl, sym, _∙_}
+use mathlib.Core.Bool.{Bool, true, false, _||_, cond}
+use mathlib.Core.List.{List, [], _∷_}
+use Rattle.theory.specs.Search.{any, first, firstFrom}
+use Rattle.theory.specs.Rows.{RowTests, testing, placeless, atRow, someBad, placed}
+use Rattle.theory.specs.Verdict.{acceptedNumber, rowsAnswer}
+use Rattle.theory.proofs.Rows.{placed-number}
+
+module _ (n : ℕ) where
+  -- where the first table has a bad row, its lowest is named
+  pub rows-first : (t : RowTests) (ts : List RowTests) → any (t .bad) (t .count) ≡ true
+      → rowsAnswer n (t ∷ ts) ≡ atRow n (t .table) (first (t .bad) (t .count))
+  rows-first t ts e =
+      let x = atRow n (t .table) (first (t .bad) (t .count)) in
+      λ i. cond (e i || someBad ts) (cond (e i) x (placed n ts)) (placeless acceptedNumber)
+
+  -- where the first table has no bad row, the others decide
+  pub rows-next : (t : RowTests) (ts : List RowTests) → any (t .bad) (t .count) ≡ false → rowsAnswer n (t ∷ ts) ≡ rowsAnswer n ts
+  rows-next t ts e =
+      let x = atRow n (t .table) (first (t .bad) (t .count)) in
+      λ i. cond (e i || someBad ts) (cond (e i) x (placed n ts)) (placeless acceptedNumber)
+
+  -- a table of one row that is bad or not
+  pub one-row : (t : ℕ) (b : Bool) → rowsAnswer n (testing t 1 (λ k. b) ∷ []) ≡ cond b (atRow n t 0) (placeless acceptedNumber)
+  unfolding any first firstFrom
+  one-row t true = refl
+  one-row t false = refl
+
+  -- where the answer of a refusal accepts, no row is bad
+  pub rows-clear : (ts : List RowTests) → (n ≡ acceptedNumber → ⊥) → rowsAnswer n ts .number ≡ acceptedNumber → someBad ts ≡ false
+  rows-clear ts d e = go (someBad ts) refl e
+    where
+      go : (b : Bool) → someBad ts ≡ b → cond b (placed n ts) (placeless acceptedNumber) .number ≡ acceptedNumber → someBad ts ≡ false
+      go true q e = absurd (d (sym (placed-number n ts) ∙ e))
+      go false q e = q
