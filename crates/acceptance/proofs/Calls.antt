@@ -1,44 +1,25 @@
 -- The answers of the two calls: each its own 1, then what both ask, then a supplier's 13.
-use Prim.Native.Nat.{ℕ, zero, suc, _<_}
+use Prim.Native.Nat.{_<_}
 use mathlib.Core.Path.{_≡_, refl, sym, ap, ap₂, _∙_}
 use mathlib.Core.Bool.{true, false, cond}
 use mathlib.Core.List.{[], _∷_}
 use native.Mathlib.Omega.{arith}
 use Rattle.theory.specs.Rows.{placeless}
-use Rattle.theory.specs.Verdict.{acceptedNumber, Refusal, firstRefusal, rowsAnswer, orNext}
+use Rattle.theory.specs.Verdict.{acceptedNumber, within, firstRefusal, rowsAnswer, orNext}
 use Rattle.theory.specs.declared.Answer.{Answer}
-use Rattle.theory.proofs.Verdict.{one-answer, answer-append, next-given, next-none}
+use Rattle.theory.proofs.Verdict.{one-answer, answer-append, next-given, next-none, next-assoc, next-first}
 use Rattle.cells.specs.Refusals.{shapeRefused, windowsRefused, scheduleRefused}
 use Rattle.rules.specs.Shape.{shapeBad}
 use Rattle.rules.specs.Verdict.{programVerdict}
 use Rattle.code.specs.Compile.{CodeFits}
 use Rattle.verdict_2_11.specs.Tables.{tablesAndCodeAnswer}
 use Rattle.verdict_2_11.proofs.Asked.{call-answer, call-accepted}
-use Rattle.suppliers.specs.Windows.{Windowed, windowTests, windowsBad, windowsShapeBad, windowRowsRefusals, windowsAnswer}
+use Rattle.suppliers.specs.Windows.{Windowed, windowTests, windowsBad, windowsShapeBad, windowsRefusal, windowRowsRefusals, windowsAnswer}
 use Rattle.suppliers.specs.Schedule.{partTests, partBad}
-use Rattle.suppliers.specs.Supplier.{Asked, supplierOf, windowedOf, partShapeBad, ownRefusals, partVerdict, partAnswer, supplierVerdict}
+use Rattle.suppliers.specs.Supplier.{Asked, supplierOf, windowedOf, partShapeBad, partRefusal, ownRefusals, partVerdict, partAnswer}
+use Rattle.suppliers.specs.Supplier.{supplierVerdict}
 use Rattle.suppliers.proofs.Answers.{part-number, supplier-refused}
 use Rattle.acceptance.specs.Judged.{shapedAnswer}
-
--- of three answers, the first two come first
-next-assoc : (x y z : Answer) → orNext x (orNext y z) ≡ orNext (orNext x y) z
-next-assoc x y z = go (x .number) refl
-  where
-    go : (n : ℕ) → x .number ≡ n
-        → elim n [ zero ↦ orNext y z | suc m ↦ x ] ≡ orNext (elim n [ zero ↦ y | suc m ↦ x ]) z
-    go zero e = refl
-    go (suc m) e = sym (next-given x z (λ q. omega arith))
-
--- two answers together accept only where the first accepts
-next-first : (x y : Answer) → orNext x y .number ≡ acceptedNumber → x .number ≡ acceptedNumber
-next-first x y e = go (x .number) refl e
-  where
-    either : ℕ → Answer
-    either n = elim n [ zero ↦ y | suc m ↦ x ]
-
-    go : (n : ℕ) → x .number ≡ n → either n .number ≡ acceptedNumber → x .number ≡ acceptedNumber
-    go zero q e = q
-    go (suc m) q e = e
 
 -- the windows verdict: 1, then what both calls ask
 pub windows-answer : (L : Windowed) → windowsAnswer L ≡ cond (windowsShapeBad L) (placeless shapeRefused) (shapedAnswer L)
@@ -61,20 +42,10 @@ part-in-order L =
     ∙ ap (orNext (tablesAndCodeAnswer (L .tables))) own
     ∙ next-assoc (tablesAndCodeAnswer (L .tables)) (rowsAnswer windowsRefused (windowTests (windowedOf L))) (ownAnswer L))
   where
-    twelve : Refusal Asked
-    twelve = record { number = windowsRefused; applies = λ L. windowsBad (windowedOf L); rows = λ L. windowTests (windowedOf L) }
-
-    thirteen : Refusal Asked
-    thirteen = record {
-      number = scheduleRefused;
-      applies = λ L. partBad (L .tables) (L .part) (supplierOf L);
-      rows = λ L. partTests (L .tables) (L .part) (supplierOf L);
-    }
-
     own : firstRefusal ownRefusals L ≡ orNext (rowsAnswer windowsRefused (windowTests (windowedOf L))) (ownAnswer L)
     own =
-        answer-append (twelve ∷ []) (thirteen ∷ []) L (omega arith)
-        ∙ ap₂ orNext (one-answer twelve L refl) (one-answer thirteen L refl)
+        answer-append (within windowedOf windowsRefusal ∷ []) (partRefusal ∷ []) L (omega arith)
+        ∙ ap₂ orNext (one-answer (within windowedOf windowsRefusal) L refl) (one-answer partRefusal L refl)
 
 -- tables and windows with their shape that no number up to 12 refuses: the program is accepted, and its code is within the limit
 pub shaped-accepted : (L : Windowed) → shapeBad (L .tables) ≡ false → shapedAnswer L .number ≡ acceptedNumber

@@ -1,7 +1,7 @@
 // Answers: accepted, refused without a place, and what a search over the rows of a table comes to.
 ghost use mathlib.Core.Path.{_≡_};
 ghost use Rattle.theory.specs.Rows.{placeless};
-ghost use Rattle.theory.specs.Verdict.{acceptedNumber, found};
+ghost use Rattle.theory.specs.Verdict.{acceptedNumber, foundAt};
 use cells::refusals;
 use theory::Answer;
 
@@ -25,7 +25,7 @@ pub fn refused(number: usize) -> Answer
 
 // What a search over so many rows of a table comes to: this number at the row where it ended, or accepted where it found none.
 pub fn found(number: usize, table: usize, row: usize, count: usize) -> Answer
-    ensures { λ r. ⌜ r ≡ found number table row count ⌝ }
+    ensures { λ r. ⌜ r ≡ foundAt number table row count ⌝ }
 {
     if row < count {
         return Answer {

@@ -1,12 +1,10 @@
 -- A search of a table's rows is the same search of the rows of the slice that is lent as that table.
 use Prim.Native.Nat.{ℕ}
-use mathlib.Core.Path.{_≡_, sym, ap}
+use mathlib.Core.Path.{_≡_, ap}
 use mathlib.Core.Bool.{Bool}
 use mathlib.Core.List.{List}
-use lib.Dec.{ltb}
 use lib.IntN.{ℤ}
 use Rattle.theory.specs.Search.{any, first}
-use Rattle.theory.proofs.Search.{search-says}
 use Rattle.cells.specs.Cell.{rowsIn}
 
 module _ (p : ℕ → Bool) (width : ℕ) {t lent : List ℤ} where
@@ -17,7 +15,3 @@ module _ (p : ℕ → Bool) (width : ℕ) {t lent : List ℤ} where
   -- the lowest row of the table that passes is the lowest of the slice
   pub first-rows : t ≡ lent → first p (rowsIn width t) ≡ first p (rowsIn width lent)
   first-rows e = ap (λ (l : List ℤ). first p (rowsIn width l)) e
-
-  -- whether the search ended before the last row of the lent slice says whether some row passes
-  pub test-rows : {r : ℕ} → t ≡ lent → r ≡ first p (rowsIn width t) → ltb r (rowsIn width lent) ≡ any p (rowsIn width t)
-  test-rows e f = search-says p f (ap (λ (l : List ℤ). rowsIn width l) (sym e))

@@ -1,7 +1,7 @@
 -- The static verdict on an advance of a related state by compiled code is 0.
 -- Assumes that the system is sound, and that what is lent to the tick has its lengths.
 use Prim.Native.Nat.{ℕ}
-use mathlib.Core.Path.{_≡_, ap₂, _∙_}
+use mathlib.Core.Path.{_≡_, sym, ap, ap₂, _∙_}
 use mathlib.Core.List.{List, [], _∷_, _++_, map}
 use native.Mathlib.Nat.{mul-comm}
 use native.Mathlib.Omega.{arith}
@@ -9,9 +9,10 @@ use lib.IntN.{ℤ}
 use lib.ListN.{length}
 use borrow.Author.Tests.{le-ltb}
 use Rattle.theory.specs.Verdict.{acceptedNumber, Refusal, within, verdict, after}
+use Rattle.theory.specs.declared.Answer.{Answer}
 use Rattle.theory.proofs.Bools.{bars-iff}
 use Rattle.theory.proofs.Conditions.{or-else-no}
-use Rattle.theory.proofs.Verdict.{clear-verdict, verdict-append, verdict-skip, verdict-within}
+use Rattle.theory.proofs.Verdict.{clear-verdict, verdict-append, verdict-skip, answer-number, answer-within}
 use Rattle.cells.specs.Limits.{maxPorts, maxTasks, maxCode, wordsEach}
 use Rattle.cells.specs.Refusals.{shapeRefused}
 use Rattle.program.specs.Tables.{Tables}
@@ -43,7 +44,9 @@ asked = map (within (λ (L : Advance). L .tables)) (tableRefusals ++ (longRefusa
 asked-none : (L : Advance) → programVerdict (L .tables) ≡ acceptedNumber → CodeFits (L .tables) → verdict asked L ≡ acceptedNumber
 unfolding codeLong
 asked-none L a f =
-    verdict-within (λ (L : Advance). L .tables) (tableRefusals ++ (longRefusal ∷ [])) L
+    sym (answer-number asked L)
+    ∙ ap (λ (x : Answer). x .number) (answer-within (λ (L : Advance). L .tables) (tableRefusals ++ (longRefusal ∷ [])) L)
+    ∙ answer-number (tableRefusals ++ (longRefusal ∷ [])) (L .tables)
     ∙ (verdict-skip tableRefusals (longRefusal ∷ []) (L .tables) (accepted-clear (L .tables) a .1)
     ∙ clear-verdict (longRefusal ∷ []) (L .tables) (le-ltb _ _ f, tt))
 

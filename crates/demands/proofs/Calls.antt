@@ -13,9 +13,9 @@ use Rattle.theory.specs.Rows.{placeless}
 use Rattle.theory.specs.Verdict.{acceptedNumber, Refusal, unplaced, within, Rule, unplacedRule, holding, Keep, FirstAt}
 use Rattle.theory.specs.declared.Answer.{Answer}
 use Rattle.theory.proofs.Bools.{_or_, bars-lt, bars-as}
-use Rattle.theory.proofs.Verdict.{Meets, Barred, verdict-first, answer-first, answer-number, by-rows, first-none, barred-within, barred-append}
+use Rattle.theory.proofs.Verdict.{TestMeets, Barred, verdict-first, answer-first, answer-number, by-rows, first-none, barred-within, barred-append}
 use Rattle.cells.specs.Limits.{wordsEach}
-use Rattle.cells.specs.Refusals.{codeRefused, scheduleRefused}
+use Rattle.cells.specs.Refusals.{codeRefused}
 use Rattle.program.specs.Tables.{Tables}
 use Rattle.rules.specs.Shape.{Shaped}
 use Rattle.rules.specs.Verdict.{shapeRefusal, tableRefusals, tableRules, programRules}
@@ -26,13 +26,12 @@ use Rattle.code.specs.Compile.{sliceRefusals, sliceRules, compileRefusals, comp
 use Rattle.code.proofs.Answers.{compile-answer}
 use Rattle.suppliers.specs.Windows.{Windowed, windowsShapeBad, windowRowsRefusals, windowsVerdictRefusals, windowsVerdict, windowsAnswer}
 use Rattle.suppliers.specs.Windows.{WindowsShaped, windowRowsRules, windowsVerdictRules}
-use Rattle.suppliers.specs.Schedule.{partTests, partBad, Part, partRowRules, joinedTests, joinedBad, Joined, joinedRowRules}
 use Rattle.suppliers.specs.Supplier.{Asked, supplierOf, partShapeBad, windowedOf, ownRefusals, partRefusals, partVerdict, partAnswer}
-use Rattle.suppliers.specs.Supplier.{PartShaped, ownRules, partRules}
+use Rattle.suppliers.specs.Supplier.{partRefusal, PartShaped, partRule, ownRules, partRules}
 use Rattle.suppliers.proofs.Windows.{windows-rowed, windows-bar}
 use Rattle.suppliers.proofs.Schedule.{part-rowed, part-bars, joined-rowed, joined-bars}
 use Rattle.machine.specs.Advance.{Advance, advanceShapeBad, AdvanceShaped, runRefusals, advanceRefusals, runRules, advanceRules, advanceVerdict}
-use Rattle.machine.specs.Advance.{advanceAnswer}
+use Rattle.machine.specs.Advance.{joinedRefusal, joinedRule, advanceAnswer}
 use Rattle.machine.proofs.Fits.{advance-shape-bars, state-bars}
 use Rattle.machine.proofs.Refusals.{refused-keeps}
 use Rattle.machine.proofs.Fresh.{fresh-answer, fresh-zero, fresh-first}
@@ -45,7 +44,7 @@ unfolding codeLong
 long-bars T = bars-lt _ _
 
 -- number 11 meets its rule
-long-meets : (T : Tables) → Meets longRefusal longRule T
+long-meets : (T : Tables) → TestMeets longRefusal longRule T
 long-meets T = record { number = refl; bars = long-bars T; rows = tt }
 
 -- the tests of a call that is lent tables and more bar its rules where its own do
@@ -70,7 +69,7 @@ compile-barred L =
     (barred-within (λ (L : Compiling). L .tables) (shapeRefusal ∷ tableRefusals) programRules L (program-barred (L .tables)))
     (slice-meets, λ h. tt)
   where
-    slice-meets : Meets (unplaced codeRefused (λ (L : Compiling). codeLong (L .tables) || sliceShort L))
+    slice-meets : TestMeets (unplaced codeRefused (λ (L : Compiling). codeLong (L .tables) || sliceShort L))
         (unplacedRule codeRefused (λ L. CodeFits (L .tables) × (wordsEach * length (listingOf (L .tables)) ≤ length (L .slice)))) L
     slice-meets = record { number = refl; bars = bars-lt _ _ or bars-lt _ _; rows = tt }
 
@@ -107,8 +106,7 @@ part-barred L =
     (λ h. h .0)
     (record { number = refl; bars = windows-bar (windowedOf L); rows = windows-rowed (windowedOf L) }, λ w. (part-meets, λ p. tt))
   where
-    part-meets : Meets (record { number = scheduleRefused; applies = λ (L : Asked). partBad (L .tables) (L .part) (supplierOf L); rows = λ L. partTests (L .tables) (L .part) (supplierOf L) })
-        (record { number = scheduleRefused; holds = λ L. Part (L .tables) (L .part) (supplierOf L); rows = λ L. partRowRules (L .tables) (L .part) (supplierOf L) }) L
+    part-meets : TestMeets partRefusal partRule L
     part-meets =
         record {
           number = refl;
@@ -132,8 +130,7 @@ advance-barred L =
     lent-barred (λ (L : Advance). L .tables) advanceShapeBad runRefusals AdvanceShaped runRules L (advance-shape-bars L) (λ h. h .tables)
     (joined-meets, λ w. (record { number = refl; bars = state-bars L; rows = tt }, λ p. tt))
   where
-    joined-meets : Meets (record { number = scheduleRefused; applies = λ (L : Advance). joinedBad (L .tables) (L .schedule); rows = λ L. joinedTests (L .tables) (L .schedule) })
-        (record { number = scheduleRefused; holds = λ L. Joined (L .tables) (L .schedule); rows = λ L. joinedRowRules (L .tables) (L .schedule) }) L
+    joined-meets : TestMeets joinedRefusal joinedRule L
     joined-meets =
         record {
           number = refl;

@@ -1,14 +1,13 @@
 -- A refusal says which row: the answer of the first broken rule with its place (`FirstAt`) names row r of table t exactly where that is the
 -- row to name (`NamesRow`). Assumes of a list of rules that no number stands in it twice, and that none is 0.
 use Prim.Native.Nat.{ℕ, _≤_}
-use mathlib.Core.Path.{_≡_, refl, sym, ap, subst, _∙_}
+use mathlib.Core.Path.{_≡_, refl, sym, subst, _∙_}
 use mathlib.Core.List.{List, [], _∷_}
 use mathlib.Core.Logic.{_⊎_, inl, inr, ⊎-elim, _↔_, Iff·trans}
 use native.Mathlib.Omega.{arith}
 use Rattle.theory.specs.Rows.{RowRules, atRow, Breaks, LowestRow, PlacedAt}
 use Rattle.theory.specs.Verdict.{acceptedNumber, Rule, First, FirstAt}
-use Rattle.theory.specs.declared.Answer.{Answer}
-use Rattle.theory.proofs.Verdict.{Numbered}
+use Rattle.theory.proofs.Verdict.{Numbered, first-number}
 use Rattle.cells.specs.Refusals.{shapeRefused}
 use Rattle.rules.specs.Verdict.{programRules}
 use Rattle.code.specs.Compile.{compileRules}
@@ -55,12 +54,6 @@ module _ {A : Type 0} where
   no-first [] a n w z h = z h
   no-first (g ∷ gs) a n w z (inl h) = w .0 (h .1)
   no-first (g ∷ gs) a n w z (inr h) = no-first gs a n (w .1) z (h .1)
-
-  -- the number of the first broken rule with its place is that of the first broken rule
-  first-number : (gs : List (Rule A)) (a : A) (x : Answer) → FirstAt gs a x → First gs a (x .number)
-  first-number [] a x h = ap (λ (y : Answer). y .number) h
-  first-number (g ∷ gs) a x (inl h) = inl (h .0, h .1)
-  first-number (g ∷ gs) a x (inr h) = inr (h .0, first-number gs a x (h .1))
 
   -- the first broken rule with its place names a row exactly where that is the row to name
   pub names-row : (gs : List (Rule A)) (a : A) (n t r : ℕ) → Once gs → Numbered gs → HasRows gs a n

@@ -98,15 +98,18 @@ pub record StateFits (L : Advance) : Type 0 where
   pub left : (t : ℕ) → t < maxTasks → leftOf (L .state .left) t ≤ maxLeft
   pub positions : (j : ℕ) → j < suppliers → getD (L .state .positions) j 0 ≤ scheduleCount (L .schedule)
 
+-- the refusal of number 13, of the joined schedule
+abbrev pub joinedRefusal : Refusal Advance
+joinedRefusal = record {
+  number = scheduleRefused;
+  applies = λ L. joinedBad (L .tables) (L .schedule);
+  rows = λ L. joinedTests (L .tables) (L .schedule);
+}
+
 -- the static verdict of an advance: numbers 1 to 11, 13 and 21
 abbrev pub runRefusals : List (Refusal Advance)
 runRefusals =
-    record {
-      number = scheduleRefused;
-      applies = λ L. joinedBad (L .tables) (L .schedule);
-      rows = λ L. joinedTests (L .tables) (L .schedule);
-    }
-    ∷ unplaced stateRefused stateBad
+    joinedRefusal ∷ unplaced stateRefused stateBad
     ∷ []
 
 abbrev pub advanceRefusals : List (Refusal Advance)
@@ -115,14 +118,17 @@ advanceRefusals = callRefusals (λ L. L .tables) advanceShapeBad runRefusals
 unfoldable pub advanceVerdict : Advance → ℕ
 advanceVerdict L = verdict advanceRefusals L
 
+-- rule 13, of the joined schedule
+abbrev pub joinedRule : Rule Advance
+joinedRule = record {
+  number = scheduleRefused;
+  holds = λ L. Joined (L .tables) (L .schedule);
+  rows = λ L. joinedRowRules (L .tables) (L .schedule);
+}
+
 abbrev pub runRules : List (Rule Advance)
 runRules =
-    record {
-      number = scheduleRefused;
-      holds = λ L. Joined (L .tables) (L .schedule);
-      rows = λ L. joinedRowRules (L .tables) (L .schedule);
-    }
-    ∷ unplacedRule stateRefused StateFits
+    joinedRule ∷ unplacedRule stateRefused StateFits
     ∷ []
 
 abbrev pub advanceRules : List (Rule Advance)

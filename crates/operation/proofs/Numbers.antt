@@ -22,7 +22,7 @@ use Rattle.verdict_2_11.specs.Tables.{tablesAndCodeAnswer}
 use Rattle.verdict_2_11.proofs.Asked.{call-answer}
 use Rattle.suppliers.specs.Schedule.{joinedTests, joinedBad, Rows}
 use Rattle.suppliers.proofs.Schedule.{joined-bars}
-use Rattle.machine.specs.Advance.{Advance, advanceShapeBad, stateBad, StateFits, runRefusals, advanceRefusals, advanceVerdict}
+use Rattle.machine.specs.Advance.{Advance, advanceShapeBad, stateBad, StateFits, joinedRefusal, runRefusals, advanceRefusals, advanceVerdict}
 use Rattle.machine.proofs.Fits.{advance-shape-bars, state-bars}
 use Rattle.operation.specs.Advancing.{judgedAnswer}
 
@@ -37,14 +37,7 @@ ownAnswer L = orNext (rowsAnswer scheduleRefused (joinedTests (L .tables) (L .sc
 -- 13 and 21 are asked in this order
 own-order : (L : Advance) → firstRefusal runRefusals L ≡ ownAnswer L
 unfolding joinedBad
-own-order L = answer-append (thirteen ∷ []) (unplaced stateRefused stateBad ∷ []) L (omega arith)
-  where
-    thirteen : Refusal Advance
-    thirteen = record {
-      number = scheduleRefused;
-      applies = λ L. joinedBad (L .tables) (L .schedule);
-      rows = λ L. joinedTests (L .tables) (L .schedule);
-    }
+own-order L = answer-append (joinedRefusal ∷ []) (unplaced stateRefused stateBad ∷ []) L (omega arith)
 
 -- the answer of an advance before anything runs is 1, then that of 2 to 11 of the tables, then that of 13 and 21
 judged-order : (L : Advance)

@@ -26,20 +26,20 @@ use Rattle.program.proofs.Places.{widths}
 use Rattle.rules.specs.Shape.{badSlice, shapeBad}
 use Rattle.rules.specs.Fields.{fieldTests}
 use Rattle.rules.proofs.Shape.{whole-few, shape-bars}
-use Rattle.rules_1_2.specs.Rows.{rowTests, rowBad, startTests}
+use Rattle.rules_1_2.specs.Rows.{testsByTable, rowBad, startTests}
 
 -- what the test of a table says of a row is what the test of its place says
 pub row-at : (T : Tables) (place row : ℕ) {k : ℕ} {b : Bool} → place ≡ k
-    → b ≡ getD (rowTests T) k (λ j. false) row → b ≡ rowBad T place row
+    → b ≡ getD (testsByTable T) k (λ j. false) row → b ≡ rowBad T place row
 unfolding rowBad
 row-at T place row e h = h ∙ sym (ap (λ (k : ℕ). rowBad T k row) e)
 
 -- what the test of the place says of a row whose table has fewer rows than a kind can name: the row is the one that it names
 pub kind-at : (T : Tables) (place row : ℕ) {k name : ℕ} {b : Bool} → place ≡ k → rowsAt T k < unnamed → row < rowsAt T place
-    → name ≡ nameOf row → b ≡ getD (rowTests T) k (λ j. false) name → b ≡ rowBad T place row
+    → name ≡ nameOf row → b ≡ getD (testsByTable T) k (λ j. false) name → b ≡ rowBad T place row
 kind-at T place row {k} e few l m h =
     let same : rowsAt T place ≡ rowsAt T k = ap (rowsAt T) e in
-    row-at T place row e (h ∙ ap (getD (rowTests T) k (λ j. false)) (m ∙ name-small row (omega (arith, few, l, same))))
+    row-at T place row e (h ∙ ap (getD (testsByTable T) k (λ j. false)) (m ∙ name-small row (omega (arith, few, l, same))))
 
 -- a program in shape has fewer ports than a kind can name
 pub ports-nameable : (T : Tables) → shapeBad T ≡ false → portCount T < unnamed
@@ -60,7 +60,7 @@ modes-nameable T e = omega (arith, whole-few modeWidth maxModes (T .modes) (shap
 -- at a place past the last table no row is bad
 pub row-past : (T : Tables) (place row : ℕ) → tableCount ≤ place → rowBad T place row ≡ false
 unfolding rowBad
-row-past T place row h = λ i. List·getD-eq-default (rowTests T) (λ j. false) h i row
+row-past T place row h = λ i. List·getD-eq-default (testsByTable T) (λ j. false) h i row
 
 -- the number k is none of those below n, as a `match` leaves it
 abbrev pub NoneBelow : ℕ → ℕ → Type 0

@@ -9,8 +9,8 @@ use Rattle.rules.specs.Fields.{portBad, taskBad, taskPortBad, driverBad, copyBa
 use Rattle.rules.specs.Fields.{startBad}
 
 -- the tests of the rows of each table, in the order of the tables
-abbrev pub rowTests : Tables → List (ℕ → Bool)
-rowTests T =
+abbrev pub testsByTable : Tables → List (ℕ → Bool)
+testsByTable T =
     portBad T
     ∷ taskBad T
     ∷ taskPortBad T
@@ -25,7 +25,7 @@ rowTests T =
 
 -- row i of the table at a place is bad; at a place past the last table no row is
 unfoldable pub rowBad : Tables → ℕ → ℕ → Bool
-rowBad T place i = getD (rowTests T) place (λ j. false) i
+rowBad T place i = getD (testsByTable T) place (λ j. false) i
 
 -- number 2 of the start mode, which is row 0 of its place
 abbrev pub startTests : Tables → List RowTests

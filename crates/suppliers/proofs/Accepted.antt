@@ -16,7 +16,7 @@ use Rattle.theory.proofs.Bools.{neither, says-itself, _and_}
 use Rattle.theory.proofs.Verdict.{verdict-clear, verdict-skip, answer-append, clear-answer, one-answer}
 use Rattle.theory.proofs.Members.{member-keep}
 use Rattle.cells.specs.Limits.{suppliers, maxWindows, maxPart}
-use Rattle.cells.specs.Refusals.{shapeRefused, windowsRefused, scheduleRefused}
+use Rattle.cells.specs.Refusals.{shapeRefused, scheduleRefused}
 use Rattle.program.specs.Tables.{Tables, modeCount, taskCount}
 use Rattle.program.specs.Program.{Program, Task, programOf, task, mode, dueTasks}
 use Rattle.program.proofs.Decoded.{task-row}
@@ -27,10 +27,11 @@ use Rattle.code.specs.Compile.{longRefusal}
 use Rattle.runs.specs.Windows.{windowWidth}
 use Rattle.runs.specs.Schedule.{scheduleWidth}
 use Rattle.runs.proofs.Exactly.{SomeTime}
-use Rattle.suppliers.specs.Windows.{Windowed, windowTests, windowsBad, windowsShapeBad, windowRowsRefusals, windowsVerdictRefusals}
+use Rattle.suppliers.specs.Windows.{Windowed, windowsShapeBad, windowsRefusal, windowRowsRefusals, windowsVerdictRefusals}
 use Rattle.suppliers.specs.Windows.{windowsVerdict}
 use Rattle.suppliers.specs.Schedule.{partTests, partBad}
-use Rattle.suppliers.specs.Supplier.{Asked, supplierOf, ownTasks, courseOf, partShapeBad, windowedOf, ownRefusals, partVerdict, partAnswer}
+use Rattle.suppliers.specs.Supplier.{Asked, supplierOf, ownTasks, courseOf, partShapeBad, windowedOf, partRefusal, ownRefusals, partVerdict}
+use Rattle.suppliers.specs.Supplier.{partAnswer}
 
 -- tables and windows that number 1 passes have their shape; so has a part
 pub windows-shaped : (L : Windowed) → windowsShapeBad L ≡ false → shapeBad (L .tables) ≡ false
@@ -51,15 +52,7 @@ windows-accepted L e =
 abbrev between : List (Refusal Asked)
 between =
     map (within (λ (L : Asked). L .tables)) (tableRefusals ++ (longRefusal ∷ []))
-    ++ (record { number = windowsRefused; applies = λ L. windowsBad (windowedOf L); rows = λ L. windowTests (windowedOf L) } ∷ [])
-
--- number 13 of a part
-abbrev own : Refusal Asked
-own = record {
-  number = scheduleRefused;
-  applies = λ L. partBad (L .tables) (L .part) (supplierOf L);
-  rows = λ L. partTests (L .tables) (L .part) (supplierOf L);
-}
+    ++ (within windowedOf windowsRefusal ∷ [])
 
 -- where the windows verdict is 0, the verdict on a part asks only for the part's shape and number 13
 pub part-after : (L : Asked) → windowsVerdict (windowedOf L) ≡ acceptedNumber
@@ -69,7 +62,7 @@ pub part-after : (L : Asked) → windowsVerdict (windowedOf L) ≡ acceptedNumbe
 unfolding partVerdict windowsVerdict partShapeBad windowsShapeBad
 part-after L e =
     let c = verdict-clear windowsVerdictRefusals (windowedOf L) (omega arith) e in
-    λ i. orElse (c .0 i || badSlice scheduleWidth maxPart (L .part)) 1 (verdict-skip between (own ∷ []) L (c .1) i)
+    λ i. orElse (c .0 i || badSlice scheduleWidth maxPart (L .part)) 1 (verdict-skip between (partRefusal ∷ []) L (c .1) i)
 
 -- where the windows verdict is 0, the answer on a part is that of its shape, or what its rows give for number 13
 pub part-answer-after : (L : Asked) → windowsVerdict (windowedOf L) ≡ acceptedNumber
@@ -79,10 +72,10 @@ pub part-answer-after : (L : Asked) → windowsVerdict (windowedOf L) ≡ accept
 unfolding partAnswer windowsVerdict partShapeBad windowsShapeBad partBad
 part-answer-after L e =
     let c = verdict-clear windowsVerdictRefusals (windowedOf L) (omega arith) e in
-    let rest : firstRefusal (between ++ (own ∷ [])) L ≡ rowsAnswer scheduleRefused (partTests (L .tables) (L .part) (supplierOf L)) =
-    answer-append between (own ∷ []) L (omega arith)
-    ∙ ap (λ (x : Answer). orNext x (firstRefusal (own ∷ []) L)) (clear-answer between L (c .1))
-    ∙ one-answer own L refl in
+    let rest : firstRefusal (between ++ (partRefusal ∷ [])) L ≡ rowsAnswer scheduleRefused (partTests (L .tables) (L .part) (supplierOf L)) =
+    answer-append between (partRefusal ∷ []) L (omega arith)
+    ∙ ap (λ (x : Answer). orNext x (firstRefusal (partRefusal ∷ []) L)) (clear-answer between L (c .1))
+    ∙ one-answer partRefusal L refl in
     λ i. cond (c .0 i || badSlice scheduleWidth maxPart (L .part)) (placeless shapeRefused) (rest i)
 
 -- of a supplier's own tasks among some, a task of it is one exactly where it is among them

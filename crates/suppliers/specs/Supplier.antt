@@ -8,11 +8,11 @@ use lib.IntN.{ℤ}
 use lib.ListN.{length}
 use Rattle.theory.specs.Lists.{keep}
 use Rattle.theory.specs.Rows.{placeless}
-use Rattle.theory.specs.Verdict.{acceptedNumber, Refusal, verdict, firstRefusal, Rule}
+use Rattle.theory.specs.Verdict.{acceptedNumber, Refusal, within, verdict, firstRefusal, Rule, holding}
 use Rattle.theory.specs.declared.Answer.{Answer}
 use Rattle.cells.specs.Cell.{indexOf}
 use Rattle.cells.specs.Limits.{maxWindows, maxPart}
-use Rattle.cells.specs.Refusals.{windowsRefused, scheduleRefused, outsideRefused, lateRefused}
+use Rattle.cells.specs.Refusals.{scheduleRefused, outsideRefused, lateRefused}
 use Rattle.program.specs.Tables.{Tables}
 use Rattle.program.specs.Program.{Program, programOf, task, mode, ticksOf, nextUnit, dueTasks}
 use Rattle.rules.specs.Shape.{badSlice, shapeBad, WholeRows, Shaped}
@@ -21,7 +21,7 @@ use Rattle.code.specs.Compile.{callRefusals, callRules}
 use Rattle.runs.specs.Windows.{windowWidth, inWindow}
 use Rattle.runs.specs.Schedule.{scheduleWidth, blockOf}
 use Rattle.runs.specs.Round.{Course, Break, none, outside, late, worstBreak, nothing}
-use Rattle.suppliers.specs.Windows.{Windowed, windowTests, windowsBad, Windows, windowRules}
+use Rattle.suppliers.specs.Windows.{Windowed, windowsRefusal, windowsRule}
 use Rattle.suppliers.specs.Schedule.{partTests, partBad, Part, partRowRules}
 
 -- what a supplier's verdict is lent: its part of the schedule, and its number as it is given
@@ -95,15 +95,16 @@ partShapeBad L =
 abbrev pub windowedOf : Asked → Windowed
 windowedOf L = record { tables = L .tables; windows = L .windows }
 
+-- the refusal of number 13, of a part
+abbrev pub partRefusal : Refusal Asked
+partRefusal = record {
+  number = scheduleRefused;
+  applies = λ L. partBad (L .tables) (L .part) (supplierOf L);
+  rows = λ L. partTests (L .tables) (L .part) (supplierOf L);
+}
+
 abbrev pub ownRefusals : List (Refusal Asked)
-ownRefusals =
-    record { number = windowsRefused; applies = λ L. windowsBad (windowedOf L); rows = λ L. windowTests (windowedOf L) }
-    ∷ record {
-      number = scheduleRefused;
-      applies = λ L. partBad (L .tables) (L .part) (supplierOf L);
-      rows = λ L. partTests (L .tables) (L .part) (supplierOf L);
-    }
-    ∷ []
+ownRefusals = within windowedOf windowsRefusal ∷ partRefusal ∷ []
 
 abbrev pub partRefusals : List (Refusal Asked)
 partRefusals = callRefusals (λ L. L .tables) partShapeBad ownRefusals
@@ -115,15 +116,16 @@ partVerdict L = verdict partRefusals L
 abbrev pub PartShaped : Asked → Type 0
 PartShaped L = Shaped (L .tables) × WholeRows windowWidth maxWindows (L .windows) × WholeRows scheduleWidth maxPart (L .part)
 
+-- rule 13, of a part
+abbrev pub partRule : Rule Asked
+partRule = record {
+  number = scheduleRefused;
+  holds = λ L. Part (L .tables) (L .part) (supplierOf L);
+  rows = λ L. partRowRules (L .tables) (L .part) (supplierOf L);
+}
+
 abbrev pub ownRules : List (Rule Asked)
-ownRules =
-    record { number = windowsRefused; holds = λ L. Windows (windowedOf L); rows = λ L. windowRules (windowedOf L) }
-    ∷ record {
-      number = scheduleRefused;
-      holds = λ L. Part (L .tables) (L .part) (supplierOf L);
-      rows = λ L. partRowRules (L .tables) (L .part) (supplierOf L);
-    }
-    ∷ []
+ownRules = holding windowedOf windowsRule ∷ partRule ∷ []
 
 abbrev pub partRules : List (Rule Asked)
 partRules = callRules (λ L. L .tables) PartShaped ownRules

@@ -60,8 +60,12 @@ windowRules L = asking windowsAt (windowCount (L .windows)) (WindowRow L) ∷ []
 unfoldable pub windowsShapeBad : Windowed → Bool
 windowsShapeBad L = shapeBad (L .tables) || badSlice windowWidth maxWindows (L .windows)
 
+-- the refusal of number 12
+abbrev pub windowsRefusal : Refusal Windowed
+windowsRefusal = record { number = windowsRefused; applies = windowsBad; rows = windowTests }
+
 abbrev pub windowRowsRefusals : List (Refusal Windowed)
-windowRowsRefusals = record { number = windowsRefused; applies = windowsBad; rows = windowTests } ∷ []
+windowRowsRefusals = windowsRefusal ∷ []
 
 abbrev pub windowsVerdictRefusals : List (Refusal Windowed)
 windowsVerdictRefusals = callRefusals (λ L. L .tables) windowsShapeBad windowRowsRefusals
@@ -77,8 +81,12 @@ windowsAnswer L = firstRefusal windowsVerdictRefusals L
 abbrev pub WindowsShaped : Windowed → Type 0
 WindowsShaped L = Shaped (L .tables) × WholeRows windowWidth maxWindows (L .windows)
 
+-- rule 12
+abbrev pub windowsRule : Rule Windowed
+windowsRule = record { number = windowsRefused; holds = Windows; rows = windowRules }
+
 abbrev pub windowRowsRules : List (Rule Windowed)
-windowRowsRules = record { number = windowsRefused; holds = Windows; rows = windowRules } ∷ []
+windowRowsRules = windowsRule ∷ []
 
 abbrev pub windowsVerdictRules : List (Rule Windowed)
 windowsVerdictRules = callRules (λ L. L .tables) WindowsShaped windowRowsRules

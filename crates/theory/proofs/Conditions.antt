@@ -28,10 +28,6 @@ module _ {A : Type 0} where
   cond-of f true x y = refl
   cond-of f false x y = refl
 
--- a refusal that applies gives its number
-pub or-else-yes : {b : Bool} (n rest : ℕ) → b ≡ true → orElse b n rest ≡ n
-or-else-yes n rest e = ap (λ (c : Bool). orElse c n rest) e
-
 -- a refusal that does not apply leaves the rest to decide
 pub or-else-no : {b : Bool} (n rest : ℕ) → b ≡ false → orElse b n rest ≡ rest
 or-else-no n rest e = ap (λ (c : Bool). orElse c n rest) e

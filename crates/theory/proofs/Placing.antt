@@ -5,7 +5,7 @@ use mathlib.Core.Path.{_≡_, refl, sym, _∙_}
 use mathlib.Core.Bool.{Bool, true, false, _||_, cond}
 use mathlib.Core.List.{List, [], _∷_}
 use Rattle.theory.specs.Search.{any, first, firstFrom}
-use Rattle.theory.specs.Rows.{RowTests, testing, placeless, atRow, someBad, placed}
+use Rattle.theory.specs.Rows.{RowTests, testing, placeless, atRow, someBad, lowestBad}
 use Rattle.theory.specs.Verdict.{acceptedNumber, rowsAnswer}
 use Rattle.theory.proofs.Rows.{placed-number}
 
@@ -15,13 +15,13 @@ module _ (n : ℕ) where
       → rowsAnswer n (t ∷ ts) ≡ atRow n (t .table) (first (t .bad) (t .count))
   rows-first t ts e =
       let x = atRow n (t .table) (first (t .bad) (t .count)) in
-      λ i. cond (e i || someBad ts) (cond (e i) x (placed n ts)) (placeless acceptedNumber)
+      λ i. cond (e i || someBad ts) (cond (e i) x (lowestBad n ts)) (placeless acceptedNumber)
 
   -- where the first table has no bad row, the others decide
   pub rows-next : (t : RowTests) (ts : List RowTests) → any (t .bad) (t .count) ≡ false → rowsAnswer n (t ∷ ts) ≡ rowsAnswer n ts
   rows-next t ts e =
       let x = atRow n (t .table) (first (t .bad) (t .count)) in
-      λ i. cond (e i || someBad ts) (cond (e i) x (placed n ts)) (placeless acceptedNumber)
+      λ i. cond (e i || someBad ts) (cond (e i) x (lowestBad n ts)) (placeless acceptedNumber)
 
   -- a table of one row that is bad or not
   pub one-row : (t : ℕ) (b : Bool) → rowsAnswer n (testing t 1 (λ k. b) ∷ []) ≡ cond b (atRow n t 0) (placeless acceptedNumber)
@@ -33,6 +33,6 @@ module _ (n : ℕ) where
   pub rows-clear : (ts : List RowTests) → (n ≡ acceptedNumber → ⊥) → rowsAnswer n ts .number ≡ acceptedNumber → someBad ts ≡ false
   rows-clear ts d e = go (someBad ts) refl e
     where
-      go : (b : Bool) → someBad ts ≡ b → cond b (placed n ts) (placeless acceptedNumber) .number ≡ acceptedNumber → someBad ts ≡ false
+      go : (b : Bool) → someBad ts ≡ b → cond b (lowestBad n ts) (placeless acceptedNumber) .number ≡ acceptedNumber → someBad ts ≡ false
       go true q e = absurd (d (sym (placed-number n ts) ∙ e))
       go false q e = q

@@ -11,15 +11,15 @@ use native.Mathlib.Omega.{arith}
 use Rattle.theory.specs.Search.{any, first}
 use Rattle.theory.specs.Claim.{Bars}
 use Rattle.theory.specs.declared.Answer.{Answer}
-use Rattle.theory.specs.Rows.{RowTests, testing, RowRules, asking, atRow, someBad, placed, Every, Breaks, LowestRow}
+use Rattle.theory.specs.Rows.{RowTests, testing, RowRules, asking, atRow, someBad, lowestBad, Every, Breaks, LowestRow}
 use Rattle.theory.proofs.Bools.{clash, neither, _or_}
 use Rattle.theory.proofs.Conditions.{cond-same, cond-of}
 use Rattle.theory.proofs.Search.{Lowest, lowest, first-lowest}
 
 -- all tables of a rule come behind this one
-abbrev pub Behind : ℕ → List RowRules → Type 0
-Behind t [] = Unit {0}
-Behind t (g ∷ gs) = (t < g .table) × Behind t gs
+abbrev pub TablesBehind : ℕ → List RowRules → Type 0
+TablesBehind t [] = Unit {0}
+TablesBehind t (g ∷ gs) = (t < g .table) × TablesBehind t gs
 
 -- the test of each of n rows bars what is asked of it, where the rows before it fit
 abbrev pub Exact : (ℕ → Bool) → (ℕ → Type 0) → ℕ → Type 0
@@ -32,7 +32,7 @@ RowsJoined [] [] = Unit {0}
 RowsJoined [] (g ∷ gs) = ⊥
 RowsJoined (t ∷ ts) [] = ⊥
 RowsJoined (t ∷ ts) (g ∷ gs) =
-    (t .table ≡ g .table) × (t .count ≡ g .count) × Exact (t .bad) (g .fits) (g .count) × Behind (g .table) gs × RowsJoined ts gs
+    (t .table ≡ g .table) × (t .count ≡ g .count) × Exact (t .bad) (g .fits) (g .count) × TablesBehind (g .table) gs × RowsJoined ts gs
 
 -- tests and a rule of the rows of one table
 pub one-table : {n : ℕ} {bad : ℕ → Bool} {fits : ℕ → Type 0} (t : ℕ) → Exact bad fits n
@@ -69,7 +69,7 @@ rows-bar (t ∷ ts) (g ∷ gs) w =
     subst (λ (n : ℕ). Bars (any (t .bad) n) ((r : ℕ) → r < g .count → g .fits r)) (sym (w .1)) (table-bars (w .2)) or rows-bar ts gs (w .4)
 
 -- a row that breaks a rule whose tables all come behind a table is of a later one
-later : (t u k : ℕ) (gs : List RowRules) → Behind t gs → Breaks gs u k → t < u
+later : (t u k : ℕ) (gs : List RowRules) → TablesBehind t gs → Breaks gs u k → t < u
 later t u k [] w b = absurd b
 later t u k (g ∷ gs) w (inl b) = omega (arith, w .0, b .0)
 later t u k (g ∷ gs) w (inr b) = later t u k gs (w .1) b
@@ -91,15 +91,15 @@ lowest-one gs t r u k x y =
     (same, omega (arith, low, high))
 
 -- an answer that is placed by rows has its number
-pub placed-number : (n : ℕ) (ts : List RowTests) → placed n ts .number ≡ n
+pub placed-number : (n : ℕ) (ts : List RowTests) → lowestBad n ts .number ≡ n
 placed-number n [] = refl
 placed-number n (t ∷ ts) =
     let some = any (t .bad) (t .count) in
-    cond-of (λ (x : Answer). x .number) some _ (placed n ts) ∙ ap (cond some n) (placed-number n ts) ∙ cond-same some n
+    cond-of (λ (x : Answer). x .number) some _ (lowestBad n ts) ∙ ap (cond some n) (placed-number n ts) ∙ cond-same some n
 
 -- the answer that is placed by rows of which some is bad stands at the lowest row that breaks the rule
 pub placed-lowest : (n : ℕ) (ts : List RowTests) (gs : List RowRules) → RowsJoined ts gs → someBad ts ≡ true
-    → LowestRow gs (placed n ts .outer) (placed n ts .inner)
+    → LowestRow gs (lowestBad n ts .outer) (lowestBad n ts .inner)
 placed-lowest n [] [] w e = clash {b = false} e refl
 placed-lowest n [] (g ∷ gs) w e = absurd w
 placed-lowest n (t ∷ ts) [] w e = absurd w
@@ -109,8 +109,8 @@ placed-lowest n (t ∷ ts) (g ∷ gs) w e = go (any (t .bad) (t .count)) refl e 
     counted = ap (any (t .bad)) (w .1)
 
     go : (b : Bool) → any (t .bad) (t .count) ≡ b → (b || someBad ts) ≡ true
-        → (someBad ts ≡ true → LowestRow gs (placed n ts .outer) (placed n ts .inner))
-        → let x = cond b (atRow n (t .table) (first (t .bad) (t .count))) (placed n ts) in LowestRow (g ∷ gs) (x .outer) (x .inner)
+        → (someBad ts ≡ true → LowestRow gs (lowestBad n ts .outer) (lowestBad n ts .inner))
+        → let x = cond b (atRow n (t .table) (first (t .bad) (t .count))) (lowestBad n ts) in LowestRow (g ∷ gs) (x .outer) (x .inner)
     go true q f ih = subst (LowestRow (g ∷ gs) (t .table)) (sym (ap (first (t .bad)) (w .1) ∙ first-lowest (t .bad) (g .count) i low)) here
       where
         found : (i : ℕ) × Lowest (t .bad) (g .count) i

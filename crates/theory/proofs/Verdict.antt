@@ -2,7 +2,7 @@
 -- that of the lowest row that breaks the rule.
 -- Assumes that each refusal's test bars the rule of its number where the earlier rules hold (`Barred`), and that no number is
 -- `acceptedNumber`.
-use Prim.Native.Nat.{ℕ, zero, suc, _<_}
+use Prim.Native.Nat.{ℕ, zero, suc}
 use mathlib.Core.Path.{_≡_, refl, sym, ap, subst, _∙_}
 use mathlib.Core.Bool.{Bool, true, false, _||_, cond}
 use mathlib.Core.List.{List, [], _∷_, _++_, map}
@@ -11,18 +11,13 @@ use native.Mathlib.Omega.{arith}
 use lib.Dec.{ltb}
 use Rattle.theory.specs.Search.{any, first}
 use Rattle.theory.specs.Claim.{Bars}
-use Rattle.theory.specs.Rows.{RowTests, testing, RowRules, placeless, atRow, someBad, placed, Every, Breaks, PlacedAt, Unbroken}
-use Rattle.theory.specs.Verdict.{acceptedNumber, orElse, Refusal, within, verdict, firstRefusal, orNext, Rule, holding, First, Keep, rowsAnswer, found}
+use Rattle.theory.specs.Rows.{RowTests, testing, RowRules, placeless, atRow, someBad, lowestBad, Every, Breaks, PlacedAt, Unbroken}
+use Rattle.theory.specs.Verdict.{acceptedNumber, orElse, Refusal, within, verdict, firstRefusal, orNext, Rule, holding, First, Keep, rowsAnswer, foundAt}
 use Rattle.theory.specs.Verdict.{after, FirstAt, ByRows}
 use Rattle.theory.specs.declared.Answer.{Answer}
 use Rattle.theory.proofs.Bools.{bars-iff, bars-as}
 use Rattle.theory.proofs.Search.{search-says}
 use Rattle.theory.proofs.Rows.{RowsJoined, rows-bar, lowest-one, placed-number, placed-lowest, every-unbroken}
-
--- of two verdicts, a first that refuses stays
-pub after-given : (m n : ℕ) → acceptedNumber < m → after m n ≡ m
-after-given zero n l = absurd (omega arith)
-after-given (suc m) n l = refl
 
 -- two verdicts together accept only where each accepts
 pub after-none : (m n : ℕ) → after m n ≡ acceptedNumber → (m ≡ acceptedNumber) × (n ≡ acceptedNumber)
@@ -47,7 +42,7 @@ bars-rows {H} ts qs w there back = subst (λ (b : Bool). Bars b H) (sym (w .1)) 
 
 -- a search over the rows of one table comes to the answer that these rows give
 pub found-rows : (n t : ℕ) {count : ℕ} (bad : ℕ → Bool) {r m : ℕ} → r ≡ first bad count → m ≡ count
-    → found n t r m ≡ rowsAnswer n (testing t count bad ∷ [])
+    → foundAt n t r m ≡ rowsAnswer n (testing t count bad ∷ [])
 found-rows n t {count} bad {r} {m} e f = go (any bad count) (search-says bad e f)
   where
     go : (b : Bool) → ltb r m ≡ b
@@ -58,7 +53,7 @@ found-rows n t {count} bad {r} {m} e f = go (any bad count) (search-says bad e f
 
 -- a refusal that is given by rows has, by itself, the answer that they give
 pub one-answer : {A : Type 0} (r : Refusal A) (a : A) → r .applies a ≡ someBad (r .rows a) → firstRefusal (r ∷ []) a ≡ rowsAnswer (r .number) (r .rows a)
-one-answer r a e = λ i. cond (e i) (placed (r .number) (r .rows a)) (placeless acceptedNumber)
+one-answer r a e = λ i. cond (e i) (lowestBad (r .number) (r .rows a)) (placeless acceptedNumber)
 
 -- two places of one broken rule are one
 placed-one : (qs : List RowRules) (t r u k : ℕ) → PlacedAt qs t r → PlacedAt qs u k → (t ≡ u) × (r ≡ k)
@@ -67,7 +62,7 @@ placed-one (q ∷ qs) t r u k x y = lowest-one (q ∷ qs) t r u k x y
 
 -- the place of a refusal that applies is the place of its rule
 rowed-placed : (n : ℕ) (b : Bool) (ts : List RowTests) (qs : List RowRules) → Rowed b ts qs → b ≡ true
-    → PlacedAt qs (placed n ts .outer) (placed n ts .inner)
+    → PlacedAt qs (lowestBad n ts .outer) (lowestBad n ts .inner)
 rowed-placed n b [] [] w e = (refl, refl)
 rowed-placed n b [] (q ∷ qs) w e = absurd w
 rowed-placed n b (t ∷ ts) [] w e = absurd w
@@ -96,9 +91,29 @@ next-given x y d = go (x .number) refl
 pub next-none : (x y : Answer) → x .number ≡ acceptedNumber → orNext x y ≡ y
 next-none x y e = λ i. elim (e i) [ zero ↦ y | suc m ↦ x ]
 
+-- of three answers, the first two come first
+pub next-assoc : (x y z : Answer) → orNext x (orNext y z) ≡ orNext (orNext x y) z
+next-assoc x y z = go (x .number) refl
+  where
+    go : (n : ℕ) → x .number ≡ n
+        → elim n [ zero ↦ orNext y z | suc m ↦ x ] ≡ orNext (elim n [ zero ↦ y | suc m ↦ x ]) z
+    go zero e = refl
+    go (suc m) e = sym (next-given x z (λ q. omega arith))
+
+-- two answers together accept only where the first accepts
+pub next-first : (x y : Answer) → orNext x y .number ≡ acceptedNumber → x .number ≡ acceptedNumber
+next-first x y e = go (x .number) refl e
+  where
+    either : ℕ → Answer
+    either n = elim n [ zero ↦ y | suc m ↦ x ]
+
+    go : (n : ℕ) → x .number ≡ n → either n .number ≡ acceptedNumber → x .number ≡ acceptedNumber
+    go zero q e = q
+    go (suc m) q e = e
+
 module _ {A : Type 0} where
   -- a test meets its rule: the number is the rule's, the test bars the rule, and both speak of the same rows
-  pub record Meets (r : Refusal A) (g : Rule A) (a : A) : Type 0 where
+  pub record TestMeets (r : Refusal A) (g : Rule A) (a : A) : Type 0 where
     pub number : r .number ≡ g .number
     pub bars : Bars (r .applies a) (g .holds a)
     pub rows : Rowed (r .applies a) (r .rows a) (g .rows a)
@@ -108,27 +123,7 @@ module _ {A : Type 0} where
   Barred [] [] a = Unit {0}
   Barred [] (g ∷ gs) a = ⊥
   Barred (r ∷ rs) [] a = ⊥
-  Barred (r ∷ rs) (g ∷ gs) a = Meets r g a × (g .holds a → Barred rs gs a)
-
-  -- the verdict is the number of the first rule that is broken, and no other number is
-  pub verdict-first : (rs : List (Refusal A)) (gs : List (Rule A)) (a : A) → Barred rs gs a → (n : ℕ) → (verdict rs a ≡ n) ↔ First gs a n
-  verdict-first [] [] a w n = (λ e. sym e, λ e. sym e)
-  verdict-first [] (g ∷ gs) a w n = absurd w
-  verdict-first (r ∷ rs) [] a w n = absurd w
-  verdict-first (r ∷ rs) (g ∷ gs) a w n = go (r .applies a) (w .0 .bars) (λ h. verdict-first rs gs a (w .1 h) n)
-    where
-      go : (b : Bool) → Bars b (g .holds a) → (g .holds a → (verdict rs a ≡ n) ↔ First gs a n)
-          → (orElse b (r .number) (verdict rs a) ≡ n) ↔ (((g .holds a → ⊥) × (n ≡ g .number)) ⊎ (g .holds a × First gs a n))
-      go true s ih = (λ e. inl (s .bad refl, sym e ∙ w .0 .number), back)
-        where
-          back : ((g .holds a → ⊥) × (n ≡ g .number)) ⊎ (g .holds a × First gs a n) → r .number ≡ n
-          back (inl x) = w .0 .number ∙ sym (x .1)
-          back (inr x) = absurd (s .bad refl (x .0))
-      go false s ih = (λ e. inr (s .ok refl, ih (s .ok refl) .0 e), back)
-        where
-          back : ((g .holds a → ⊥) × (n ≡ g .number)) ⊎ (g .holds a × First gs a n) → verdict rs a ≡ n
-          back (inl x) = absurd (x .0 (s .ok refl))
-          back (inr x) = ih (x .0) .1 (x .1)
+  Barred (r ∷ rs) (g ∷ gs) a = TestMeets r g a × (g .holds a → Barred rs gs a)
 
   -- the answer is that of the first rule that is broken, with the lowest row that breaks it, and no other answer is
   pub answer-first : (rs : List (Refusal A)) (gs : List (Rule A)) (a : A) → Barred rs gs a → (x : Answer)
@@ -140,7 +135,7 @@ module _ {A : Type 0} where
       go (r .applies a) (w .0 .bars) (rowed-placed (r .number) (r .applies a) (r .rows a) (g .rows a) (w .0 .rows)) (λ h. answer-first rs gs a (w .1 h) x)
     where
       own : Answer
-      own = placed (r .number) (r .rows a)
+      own = lowestBad (r .number) (r .rows a)
 
       Own : Type 0
       Own = (g .holds a → ⊥) × (x .number ≡ g .number) × PlacedAt (g .rows a) (x .outer) (x .inner)
@@ -182,7 +177,7 @@ module _ {A : Type 0} where
   answer-number (r ∷ rs) a = go (r .applies a) (answer-number rs a)
     where
       go : (b : Bool) → firstRefusal rs a .number ≡ verdict rs a
-          → cond b (placed (r .number) (r .rows a)) (firstRefusal rs a) .number ≡ orElse b (r .number) (verdict rs a)
+          → cond b (lowestBad (r .number) (r .rows a)) (firstRefusal rs a) .number ≡ orElse b (r .number) (verdict rs a)
       go true ih = placed-number (r .number) (r .rows a)
       go false ih = ih
 
@@ -211,6 +206,19 @@ module _ {A : Type 0} where
       go ih (inl x) (inr y) = absurd (x .0 (y .0))
       go ih (inr x) (inl y) = absurd (y .0 (x .0))
       go ih (inr x) (inr y) = ih (x .1) (y .1)
+
+  -- the number of the first broken rule with its place is that of the first broken rule
+  pub first-number : (gs : List (Rule A)) (a : A) (x : Answer) → FirstAt gs a x → First gs a (x .number)
+  first-number [] a x h = ap (λ (y : Answer). y .number) h
+  first-number (g ∷ gs) a x (inl h) = inl (h .0, h .1)
+  first-number (g ∷ gs) a x (inr h) = inr (h .0, first-number gs a x (h .1))
+
+  -- the verdict is the number of the first rule that is broken, and no other number is
+  pub verdict-first : (rs : List (Refusal A)) (gs : List (Rule A)) (a : A) → Barred rs gs a → (n : ℕ) → (verdict rs a ≡ n) ↔ First gs a n
+  verdict-first rs gs a w n =
+      let own = first-number gs a (firstRefusal rs a) (answer-first rs gs a w (firstRefusal rs a) .0 refl) in
+      let is : First gs a (verdict rs a) = subst (First gs a) (answer-number rs a) own in
+      (λ e. subst (First gs a) e is, λ f. first-one gs a (verdict rs a) n is f)
 
   -- no test of a list of refusals applies
   abbrev pub Clear : List (Refusal A) → A → Type 0
@@ -275,7 +283,7 @@ module _ {A : Type 0} where
   -- where no test applies, the answer accepts
   pub clear-answer : (rs : List (Refusal A)) (a : A) → Clear rs a → firstRefusal rs a ≡ placeless acceptedNumber
   clear-answer [] a c = refl
-  clear-answer (r ∷ rs) a c = (λ i. cond (c .0 i) (placed (r .number) (r .rows a)) (firstRefusal rs a)) ∙ clear-answer rs a (c .1)
+  clear-answer (r ∷ rs) a c = (λ i. cond (c .0 i) (lowestBad (r .number) (r .rows a)) (firstRefusal rs a)) ∙ clear-answer rs a (c .1)
 
   -- where the verdict accepts, so does the answer
   pub accepted-answer : (rs : List (Refusal A)) (a : A) → Refused rs → verdict rs a ≡ acceptedNumber
@@ -288,20 +296,15 @@ module _ {A : Type 0} where
   answer-append (r ∷ rs) qs a w = go (r .applies a) (answer-append rs qs a (w .1))
     where
       go : (b : Bool) → firstRefusal (rs ++ qs) a ≡ orNext (firstRefusal rs a) (firstRefusal qs a)
-          → cond b (placed (r .number) (r .rows a)) (firstRefusal (rs ++ qs) a)
-          ≡ orNext (cond b (placed (r .number) (r .rows a)) (firstRefusal rs a)) (firstRefusal qs a)
-      go true ih = sym (next-given (placed (r .number) (r .rows a)) (firstRefusal qs a) (λ e. w .0 (sym (placed-number (r .number) (r .rows a)) ∙ e)))
+          → cond b (lowestBad (r .number) (r .rows a)) (firstRefusal (rs ++ qs) a)
+          ≡ orNext (cond b (lowestBad (r .number) (r .rows a)) (firstRefusal rs a)) (firstRefusal qs a)
+      go true ih = sym (next-given (lowestBad (r .number) (r .rows a)) (firstRefusal qs a) (λ e. w .0 (sym (placed-number (r .number) (r .rows a)) ∙ e)))
       go false ih = ih
 
 -- a list of refusals has the same answer in a call that is lent more
 pub answer-within : {A B : Type 0} (f : B → A) (rs : List (Refusal A)) (b : B) → firstRefusal (map (within f) rs) b ≡ firstRefusal rs (f b)
 answer-within f [] b = refl
-answer-within f (r ∷ rs) b = ap (cond (r .applies (f b)) (placed (r .number) (r .rows (f b)))) (answer-within f rs b)
-
--- a list of refusals has the same verdict in a call that is lent more
-pub verdict-within : {A B : Type 0} (f : B → A) (rs : List (Refusal A)) (b : B) → verdict (map (within f) rs) b ≡ verdict rs (f b)
-verdict-within f [] b = refl
-verdict-within f (r ∷ rs) b = ap (orElse (r .applies (f b)) (r .number)) (verdict-within f rs b)
+answer-within f (r ∷ rs) b = ap (cond (r .applies (f b)) (lowestBad (r .number) (r .rows (f b)))) (answer-within f rs b)
 
 -- tests that bar their rules bar them in a call that is lent more
 pub barred-within : {A B : Type 0} (f : B → A) (rs : List (Refusal A)) (gs : List (Rule A)) (b : B) → Barred rs gs (f b)
@@ -311,7 +314,7 @@ barred-within f [] (g ∷ gs) b w = absurd w
 barred-within f (r ∷ rs) [] b w = absurd w
 barred-within f (r ∷ rs) (g ∷ gs) b w = (within-meets, λ h. barred-within f rs gs b (w .1 h))
   where
-    within-meets : Meets (within f r) (holding f g) b
+    within-meets : TestMeets (within f r) (holding f g) b
     within-meets = record { number = w .0 .number; bars = w .0 .bars; rows = w .0 .rows }
 
 -- two lists of tests that bar their rules, one after the other, bar them

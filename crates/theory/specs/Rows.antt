@@ -32,10 +32,10 @@ someBad [] = false
 someBad (t ∷ ts) = any (t .bad) (t .count) || someBad ts
 
 -- the answer of number n with its place: of the first table that has a bad row the lowest such row; none where no table is tested
-abbrev pub placed : ℕ → List RowTests → Answer
-placed n [] = placeless n
-placed n (t ∷ ts) =
-    let rest = placed n ts in cond (any (t .bad) (t .count)) (atRow n (t .table) (first (t .bad) (t .count))) rest
+abbrev pub lowestBad : ℕ → List RowTests → Answer
+lowestBad n [] = placeless n
+lowestBad n (t ∷ ts) =
+    let rest = lowestBad n ts in cond (any (t .bad) (t .count)) (atRow n (t .table) (first (t .bad) (t .count))) rest
 
 -- the rows of a table as a rule asks of them: what row r must be, by itself and held against the rows before it
 pub record RowRules : Type 1 where

@@ -5,7 +5,7 @@ use mathlib.Core.Bool.{Bool, true, false, cond}
 use mathlib.Core.List.{List, [], _∷_}
 use mathlib.Core.Logic.{_⊎_}
 use lib.Dec.{ltb}
-use Rattle.theory.specs.Rows.{RowTests, RowRules, placeless, atRow, someBad, placed, PlacedAt, Unbroken}
+use Rattle.theory.specs.Rows.{RowTests, RowRules, placeless, atRow, someBad, lowestBad, PlacedAt, Unbroken}
 use Rattle.theory.specs.declared.Answer.{Answer}
 
 -- the number of acceptance: no refusal applies
@@ -44,15 +44,15 @@ verdict (r ∷ rs) a = let rest = verdict rs a in orElse (r .applies a) (r .numb
 -- the answer of the first refusal of a list that applies: its number and its place; accepted where none does
 abbrev pub firstRefusal : {A : Type 0} → List (Refusal A) → A → Answer
 firstRefusal [] a = placeless acceptedNumber
-firstRefusal (r ∷ rs) a = let rest = firstRefusal rs a in cond (r .applies a) (placed (r .number) (r .rows a)) rest
+firstRefusal (r ∷ rs) a = let rest = firstRefusal rs a in cond (r .applies a) (lowestBad (r .number) (r .rows a)) rest
 
 -- the answer of one number that is given by rows: its place, or accepted where no row is bad
 abbrev pub rowsAnswer : ℕ → List RowTests → Answer
-rowsAnswer n ts = cond (someBad ts) (placed n ts) (placeless acceptedNumber)
+rowsAnswer n ts = cond (someBad ts) (lowestBad n ts) (placeless acceptedNumber)
 
 -- the answer of number n after a search over so many rows of table t that ended at row r: there, or accepted where it found none
-abbrev pub found : ℕ → ℕ → ℕ → ℕ → Answer
-found n t r count = cond (ltb r count) (atRow n t r) (placeless acceptedNumber)
+abbrev pub foundAt : ℕ → ℕ → ℕ → ℕ → Answer
+foundAt n t r count = cond (ltb r count) (atRow n t r) (placeless acceptedNumber)
 
 -- the first of two answers, and the second where the first accepts
 abbrev pub orNext : Answer → Answer → Answer

@@ -1,7 +1,7 @@
 // The verdict on a program: numbers 1 to 10 of document 01, the first that applies, and the row that it names.
 ghost use mathlib.Core.Path.{_≡_};
 ghost use lib.IntN.{ℤ};
-ghost use Rattle.theory.specs.Verdict.{firstRefusal, found};
+ghost use Rattle.theory.specs.Verdict.{firstRefusal, foundAt};
 ghost use Rattle.program.specs.Tables.{tablesIn, rowsAt};
 ghost use Rattle.rules.specs.Shape.{InShape};
 ghost use Rattle.rules.specs.Verdict.{tableRefusals, programAnswer};
@@ -40,7 +40,7 @@ const ORDER: [usize; ASKED] = [
 
 // What a search over all rows of a table comes to that ended at this row: this number there, or accepted behind the last row.
 fn named(tables: &[&[i32]; Program::TABLES], number: usize, table: usize, row: usize) -> Answer
-    ensures { λ r. ⌜ ((start : ℤ) → r ≡ found number table row (rowsAt (tablesIn (now (tables .entry)) start) table)) ⌝ }
+    ensures { λ r. ⌜ ((start : ℤ) → r ≡ foundAt number table row (rowsAt (tablesIn (now (tables .entry)) start) table)) ⌝ }
 {
     answers::found(number, table, row, rows::count(tables, table))
 }

@@ -1,10 +1,11 @@
 -- Document 01's numbers, where a name stands for them elsewhere: the most rows of each table, the refusal and table numbers, F's tables and
 -- code as plain numbers, a program for each refusal of a program and of windows with the row that it names, and the fields at their limits.
+use Prim.Native.Nat.{ℕ}
 use mathlib.Core.Path.{_≡_, refl}
 use mathlib.Core.List.{List, [], _∷_}
 use lib.IntN.{ℤ}
 use Rattle.theory.specs.Rows.{placeless, atRow}
-use Rattle.theory.specs.Verdict.{acceptedNumber}
+use Rattle.theory.specs.Verdict.{acceptedNumber, Rule}
 use Rattle.theory.specs.declared.Answer.{Answer}
 use Rattle.cells.specs.Limits.{maxPorts, maxTasks, maxTaskPorts, maxDrivers, maxCopies, maxModes, maxModePorts, maxInvocations}
 use Rattle.cells.specs.Limits.{maxUpdates, maxSwitches, maxWindows, maxPart, maxSchedule, maxUnits, maxCode, maxDelay, maxElapsed}
@@ -15,13 +16,20 @@ use Rattle.cells.specs.Refusals.{outsideRefused, lateRefused, timeRefused, over
 use Rattle.cells.specs.Refusals.{countRefused, stateRefused}
 use Rattle.program.specs.Tables.{portsAt, tasksAt, taskPortsAt, driversAt, copiesAt, modesAt, modePortsAt, invocationsAt, updatesAt}
 use Rattle.program.specs.Tables.{switchesAt, windowsAt, scheduleAt, startAt, supplierAt}
-use Rattle.rules.specs.Verdict.{programAnswer}
+use Rattle.rules.specs.Verdict.{programAnswer, programRules}
 use Rattle.code.specs.Op.{emit}
-use Rattle.code.specs.Compile.{listingOf}
-use Rattle.suppliers.specs.Windows.{windowsAnswer}
+use Rattle.code.specs.Compile.{listingOf, compileRules}
+use Rattle.suppliers.specs.Windows.{windowsAnswer, windowsVerdictRules}
+use Rattle.suppliers.specs.Supplier.{atTick, partRules}
+use Rattle.machine.specs.Advance.{advanceRules}
 use Rattle.worked.specs.Computed.{computed}
 use Rattle.worked.specs.Programs.{numbers, programF}
 use Rattle.worked.specs.Broken.{extended, bounded, twoWindows}
+
+-- the numbers of some rules, in the order in which they are asked
+abbrev numbersOf : {A : Type 0} → List (Rule A) → List ℕ
+numbersOf [] = []
+numbersOf (g ∷ gs) = g .number ∷ numbersOf gs
 
 -- most rows, in the order of 01's table: ports to switches, windows, schedule rows a supplier and in all
 most-rows :
@@ -48,6 +56,31 @@ table-numbers :
     ∷ scheduleAt ∷ startAt ∷ supplierAt ∷ []
     ≡ 0 ∷ 1 ∷ 2 ∷ 3 ∷ 4 ∷ 5 ∷ 6 ∷ 7 ∷ 8 ∷ 9 ∷ 10 ∷ 11 ∷ 12 ∷ 13 ∷ []
 table-numbers = refl
+
+-- an answer in three numbers: without a place 0 and 0; table and row; mode and tick
+answers-in-numbers :
+    placeless 11 ∷ atRow 6 7 3 ∷ atTick 15 2 10 ∷ []
+    ≡ record { number = 11; outer = 0; inner = 0 }
+    ∷ record { number = 6; outer = 7; inner = 3 }
+    ∷ record { number = 15; outer = 2; inner = 10 }
+    ∷ []
+answers-in-numbers = refl
+
+-- the order in which each call asks: the program verdict and a fresh state, compiling, windows, a supplier, an advance
+program-order : numbersOf programRules ≡ 1 ∷ 2 ∷ 3 ∷ 4 ∷ 5 ∷ 6 ∷ 7 ∷ 8 ∷ 9 ∷ 10 ∷ []
+program-order = refl
+
+compile-order : numbersOf compileRules ≡ 1 ∷ 2 ∷ 3 ∷ 4 ∷ 5 ∷ 6 ∷ 7 ∷ 8 ∷ 9 ∷ 10 ∷ 11 ∷ []
+compile-order = refl
+
+windows-order : numbersOf windowsVerdictRules ≡ 1 ∷ 2 ∷ 3 ∷ 4 ∷ 5 ∷ 6 ∷ 7 ∷ 8 ∷ 9 ∷ 10 ∷ 11 ∷ 12 ∷ []
+windows-order = refl
+
+supplier-order : numbersOf partRules ≡ 1 ∷ 2 ∷ 3 ∷ 4 ∷ 5 ∷ 6 ∷ 7 ∷ 8 ∷ 9 ∷ 10 ∷ 11 ∷ 12 ∷ 13 ∷ []
+supplier-order = refl
+
+advance-order : numbersOf advanceRules ≡ 1 ∷ 2 ∷ 3 ∷ 4 ∷ 5 ∷ 6 ∷ 7 ∷ 8 ∷ 9 ∷ 10 ∷ 11 ∷ 13 ∷ 21 ∷ []
+advance-order = refl
 
 -- F's ports: 0 sensor, 1 actuator, 2 task input, 3 task output, each with its first value 0; its drivers: guard kind 0 and three zeros
 F-ports : programF 6 2 .ports

@@ -69,6 +69,12 @@ start-alone : programAnswer (declaring [] (10 ∷ 10 ∷ []) (negsuc 0)) ≡ atR
 unfolding computed
 start-alone = refl
 
+-- 6: two tasks of a mode share the output port 0: the later invocation
+output-of-two : programAnswer (tables (numbers (3 ∷ 0 ∷ [])) (numbers (0 ∷ 1 ∷ 0 ∷ 1 ∷ [])) (numbers (0 ∷ 0 ∷ 1 ∷ 0 ∷ [])) alwaysRow []
+    (numbers (10 ∷ [])) (numbers (0 ∷ 0 ∷ [])) (numbers (0 ∷ 1 ∷ 0 ∷ 0 ∷ 0 ∷ 1 ∷ 1 ∷ 0 ∷ [])) [] [] (pos 0)) ≡ atRow 6 7 1
+unfolding computed
+output-of-two = refl
+
 -- 9 names the mode: updates of frequencies 2 and 3 (rows 0 and 2) in mode 1 of period 4; mode 0, with row 1, is good
 mode-of-units : programAnswer (tables [] [] [] alwaysRow [] (numbers (6 ∷ 4 ∷ [])) [] []
     (numbers (1 ∷ 2 ∷ 0 ∷ 0 ∷ 3 ∷ 0 ∷ 1 ∷ 3 ∷ 0 ∷ [])) [] (pos 0)) ≡ atRow 9 5 1
@@ -172,6 +178,11 @@ row-of-joined = refl
 
 pub row-of-joined-named : NamesRow advanceRules (joinedWith (1 ∷ 9 ∷ 0 ∷ 0 ∷ 5 ∷ [])) 13 11 4
 row-of-joined-named = places-exact .advance _ 13 11 4 (pastEleven (inl (refl, tt))) .0 row-of-joined
+
+-- 13: not sorted by supplier counts at the later row too: a row of supplier 0 behind one of supplier 1
+supplier-behind : advanceAnswer (joinedWith (1 ∷ 9 ∷ 1 ∷ 0 ∷ 5 ∷ 0 ∷ 15 ∷ 1 ∷ 0 ∷ 5 ∷ [])) .answer ≡ atRow 13 11 5
+unfolding computed
+supplier-behind = refl
 
 -- so many idle rows of supplier 1 at F's first `future`
 abbrev idling : ℕ → List ℕ

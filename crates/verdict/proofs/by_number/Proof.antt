@@ -7,7 +7,7 @@ use lib.IntN.{ℤ}
 use borrow.Author.Needs.{needs}
 use Rattle.theory.specs.Search.{first}
 use Rattle.theory.specs.Rows.{testing}
-use Rattle.theory.specs.Verdict.{rowsAnswer, found}
+use Rattle.theory.specs.Verdict.{rowsAnswer, foundAt}
 use Rattle.theory.specs.declared.Answer.{Answer}
 use Rattle.theory.proofs.Verdict.{found-rows}
 use Rattle.program.specs.Tables.{Tables, tablesIn, rowsAt, taskPortsAt, copiesAt, modesAt, modePortsAt, invocationsAt, updatesAt, switchesAt}
@@ -108,12 +108,12 @@ lent s = tablesIn (s .args .tables .now) (s .args .program .start)
 
 -- a number that is given by the rows of one table comes to what the search of these rows found
 found-as : (s : tie.Start) {k row : ℕ} {x : Answer} (t : ℕ) (bad : ℕ → Bool) → s .args .number ≡ k
-    → ((start : ℤ) → x ≡ found (s .args .number) t row (rowsAt (tablesIn (s .args .tables .now) start) t))
+    → ((start : ℤ) → x ≡ foundAt (s .args .number) t row (rowsAt (tablesIn (s .args .tables .now) start) t))
     → row ≡ first bad (rowsAt (lent s) t) → rowsAnswer k (testing t (rowsAt (lent s) t) bad ∷ []) ≡ answerBy tableRefusals k (lent s)
     → x ≡ answerBy tableRefusals (s .args .number) (lent s)
 found-as s {k} {row} t bad e f g h =
     answer-as tableRefusals (lent s) e
-    (f (s .args .program .start) ∙ ap (λ (n : ℕ). found n t row (rowsAt (lent s) t)) e ∙ found-rows k t bad g refl ∙ h)
+    (f (s .args .program .start) ∙ ap (λ (n : ℕ). foundAt n t row (rowsAt (lent s) t)) e ∙ found-rows k t bad g refl ∙ h)
 
 returns : tie.Need-returns
 unfolding fieldsBad

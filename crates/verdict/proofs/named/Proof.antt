@@ -1,7 +1,7 @@
 -- `verdict::named` meets its contract: all rows of the table are counted.
 use mathlib.Core.Path.{ap, _∙_}
 use borrow.Author.Needs.{needs}
-use Rattle.theory.specs.Verdict.{found}
+use Rattle.theory.specs.Verdict.{foundAt}
 use Rattle.verdict.proofs.named.Statement.{statement}
 use Rattle.verdict.proofs.named.Tie as tie
 
@@ -14,7 +14,7 @@ found-requires c κs = search needs
 returns : tie.Need-returns
 returns c start =
     let a = c .before .before .args in
-    c .found .ensures ∙ ap (found (a .number) (a .table) (a .row)) (c .before .count .ensures start)
+    c .found .ensures ∙ ap (foundAt (a .number) (a .table) (a .row)) (c .before .count .ensures start)
 
 pub named-spec : {M : Type 1} → statement M
 named-spec = tie.close (tie.spec count-requires found-requires returns)
