@@ -4,6 +4,9 @@
 use std::env;
 use std::fs;
 
+// the longest delay of a `future`
+const DELAY: usize = 4096;
+
 struct Numbers {
     all: Vec<i64>,
     at: usize,
@@ -175,7 +178,7 @@ impl Program {
                     }
                 }
                 3 if b == 0 && a < n => next = a,
-                4 if !planned && (1..=4096).contains(&a) && b < n => {
+                4 if !planned && (1..=DELAY).contains(&a) && b < n => {
                     planned = true;
                     (s.pending, s.current, s.elapsed, s.remaining) = (b, at, 0, a);
                     s.positions.iter_mut().for_each(|p| *p = 0);

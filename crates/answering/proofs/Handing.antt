@@ -10,18 +10,20 @@ use lib.ListN.{length, take, drop, length-append, length-take, length-drop, take
 use lib.Seq.{length-take-le, take-append-seam, take-all, drop-drop}
 use borrow.Author.Tests.{ltb-true, ltb-false, eqb-true, eq-eqb, ne-eqb}
 use Rattle.theory.specs.Lists.{Every}
+use Rattle.theory.specs.Rows.{placeless}
 use Rattle.theory.proofs.Conditions.{cond-all}
 use Rattle.cells.specs.Limits.{wordsEach}
+use Rattle.cells.specs.Refusals.{codeRefused}
 use Rattle.code.specs.Op.{Op, instructions}
 use Rattle.text.specs.Line.{room, Holds}
 use Rattle.text.specs.Listing.{linesFrom, listingText}
 use Rattle.text.specs.Page.{Laid, linesOf, pageEnd, Filled}
 use Rattle.text.specs.declared.line.Line.{Line}
 use Rattle.text.specs.declared.page.Page.{Page}
-use Rattle.text.specs.Shipped.{badInput, answerLine}
-use Rattle.text.proofs.Answers.{line-some, answer-few}
+use Rattle.text.specs.Shipped.{badInput, largerListing, answerLine}
+use Rattle.text.proofs.Answers.{line-some, answer-few, larger-length}
 use Rattle.text.proofs.PageEnd.{Ends, page-ends, page-goes, lines-some, lines-cut}
-use Rattle.answering.specs.Answer.{Answered, textOfAnswer}
+use Rattle.answering.specs.Answer.{Answered, numberLines, textOfAnswer}
 use Rattle.answering.specs.declared.answer.Shown.{Shown}
 use Rattle.answering.specs.Writing.{openingOf, codeOf, opsOf, Spread, spread, laid, pageOf, restOf, onward, wroteOf, pageLeft, takenOf}
 use Rattle.answering.specs.Writing.{pendingOf, isWritten, AfterWrites}
@@ -35,14 +37,14 @@ laid-rest text next buffer = take-append-seam text (drop (length text) buffer)
 laid-same : (text : List ℕ) (next : ℕ) (buffer : List ℕ) → length text ≤ length buffer → length (laid text next buffer .buffer) ≡ length buffer
 laid-same text next buffer h = omega (arith, length-append text (drop (length text) buffer), length-drop (length text) buffer)
 
--- the first line and the lines that follow it are the text of an answer
+-- what an answer begins with and the lines that follow are its text
 pub opening-text : (a : Answered) → openingOf (a .shown) ++ listingText (opsOf a) ≡ textOfAnswer a
 unfolding openingOf codeOf textOfAnswer
 opening-text a = go (a .shown .bad)
   where
     go : (b : Bool)
-        → cond b badInput (answerLine (a .shown .answer)) ++ listingText (instructions (take (wordsEach * cond b 0 (a .shown .length)) (a .code)))
-        ≡ cond b badInput (answerLine (a .shown .answer) ++ listingText (instructions (take (wordsEach * a .shown .length) (a .code))))
+        → cond b badInput (numberLines (a .shown)) ++ listingText (instructions (take (wordsEach * cond b 0 (a .shown .length)) (a .code)))
+        ≡ cond b badInput (numberLines (a .shown) ++ listingText (instructions (take (wordsEach * a .shown .length) (a .code))))
     go true = append-nil badInput
     go false = refl
 
@@ -54,8 +56,12 @@ pub record Short (text : List ℕ) : Type 0 where
 pub opening-line : (s : Shown) → Short (openingOf s)
 unfolding openingOf
 opening-line s =
-    cond-all Short (s .bad) badInput (answerLine (s .answer)) (λ e. record { some = omega arith; few = omega arith })
-    (λ e. record { some = line-some (s .answer); few = answer-few (s .answer) })
+    let larger = answerLine (placeless codeRefused) ++ largerListing in
+    cond-all Short (s .bad) badInput (numberLines s) (λ e. record { some = omega arith; few = omega arith })
+    (λ e.
+    cond-all Short (s .larger) larger (answerLine (s .answer))
+    (λ q. record { some = omega (arith, larger-length); few = omega (arith, larger-length) })
+    (λ q. record { some = line-some (s .answer); few = answer-few (s .answer) }))
 
 module _ (a : Answered) (from : ℕ) (buffer : List ℕ) where
   -- where the page from an instruction on ends
@@ -74,7 +80,7 @@ module _ (a : Answered) (from : ℕ) (buffer : List ℕ) where
       ap (λ (l : List ℕ). l ++ linesFrom last (drop last (opsOf a))) (laid-rest (linesOf (opsOf a) from last) last buffer)
       ∙ sym (lines-cut (opsOf a) from last (page-ends (opsOf a) (length buffer) from .onward))
 
--- what the code lays is the page that comes next: the first line, and the lines from an instruction on
+-- what the code lays is the page that comes next: what the answer begins with, and the lines from an instruction on
 pub laid-page : (a : Answered) (from : ℕ) (buffer after : List ℕ) (l : Line) (behind : ℕ)
     → Laid buffer after 0 l behind → Holds l (openingOf (a .shown))
     → spread (record { from = 0; len = behind; next = 0 }) after ≡ pageOf a false from buffer

@@ -1,44 +1,57 @@
 -- What is printed of the answer to what was read is what document 01 has the program print.
 use Prim.Native.Nat.{ℕ, zero, suc, _*_}
 use mathlib.Core.Path.{_≡_, refl, sym, ap, _∙_}
+use mathlib.Core.Bool.{cond}
 use mathlib.Core.List.{List, [], _++_, append-nil}
 use mathlib.Core.Option.{Option}
 use native.Mathlib.Omega.{arith}
 use lib.IntN.{ℤ}
-use lib.ListN.{take, replicate}
+use lib.ListN.{take}
 use Rattle.theory.specs.Rows.{placeless}
-use Rattle.cells.specs.Limits.{maxCode, wordsEach}
-use Rattle.cells.specs.Refusals.{shapeRefused}
+use Rattle.theory.specs.declared.Answer.{Answer}
+use Rattle.cells.specs.Limits.{wordsEach}
+use Rattle.cells.specs.Refusals.{shapeRefused, codeRefused}
 use Rattle.program.specs.Tables.{Tables}
 use Rattle.code.specs.Op.{instructions}
 use Rattle.code.specs.Compile.{Compiling, listingOf, compileVerdict, compileAnswer, compileSlice, wordsOf}
 use Rattle.code.proofs.Answers.{compile-number, compile-refused}
 use Rattle.code.proofs.Words.{emit-instructions, words-are}
+use Rattle.compiler.specs.Listed.{compiling}
 use Rattle.text.specs.Listing.{listingText}
 use Rattle.text.specs.Input.{Read, bad, tooMany, got, programRead}
-use Rattle.text.specs.Shipped.{answerLine, printedFor, printed, shipped}
+use Rattle.text.specs.Shipped.{largerListing, answerLine, isLarger, behindNumber, printedFor, printed, shipped}
 use Rattle.answering.specs.Answer.{answerShown, blank, textOfAnswer}
+use Rattle.answering.proofs.Larger.{number-lines}
 
 -- what is printed of the answer to a program that was read is what the definition says
 compiled-text : (T : Tables) (rest : List (Option ℤ)) → textOfAnswer (answerShown (got T rest) blank) ≡ printed (got T rest)
-unfolding answerShown textOfAnswer
+unfolding answerShown textOfAnswer isLarger
 compiled-text T rest = go (compileVerdict L) refl
   where
     L : Compiling
-    L = record { tables = T; slice = replicate (wordsEach * maxCode) 0 }
+    L = compiling T blank
 
-    -- the first line, and behind it the listing for the number 0
-    opened : List ℕ → List ℕ
-    opened l = answerLine (compileAnswer L .answer) ++ l
+    x : Answer
+    x = compileAnswer L .answer
 
-    go : (n : ℕ) → compileVerdict L ≡ n → opened (listingText (instructions (wordsOf L))) ≡ printedFor T (compileAnswer L)
+    -- what the answer begins with, where it has this number
+    lines : ℕ → List ℕ
+    lines n = cond (isLarger T n) (answerLine (placeless codeRefused) ++ largerListing) (answerLine x)
+
+    go : (n : ℕ) → compileVerdict L ≡ n → lines (x .number) ++ listingText (instructions (wordsOf L)) ≡ printedFor T (compileAnswer L)
     go zero e =
-        ap (λ (l : List ℕ). opened (listingText (instructions l))) (words-are L e)
-        ∙ ap (λ l. opened (listingText l)) (emit-instructions (listingOf T))
-        ∙ ap (λ (n : ℕ). opened (elim n [ zero ↦ listingText (listingOf T) | suc n ↦ [] ])) (sym (compile-number L ∙ e))
+        let z : x .number ≡ zero = compile-number L ∙ e in
+        ap (λ (l : List ℕ). lines (x .number) ++ listingText (instructions l)) (words-are L e)
+        ∙ ap (λ l. lines (x .number) ++ listingText l) (emit-instructions (listingOf T))
+        ∙ ap (λ (n : ℕ). lines n ++ listingText (listingOf T)) z
+        ∙ ap (λ (n : ℕ). answerLine x ++ behindNumber T n) (sym z)
     go (suc n) e =
-        ap (λ (n : ℕ). opened (listingText (instructions (take (wordsEach * n) (compileSlice L))))) (compile-refused L (λ z. omega (arith, compile-number L, e, z)) .1)
-        ∙ ap (λ (n : ℕ). opened (elim n [ zero ↦ listingText (listingOf T) | suc n ↦ [] ])) (sym (compile-number L ∙ e))
+        let z : x .number ≡ suc n = compile-number L ∙ e in
+        ap (λ (n : ℕ). lines (x .number) ++ listingText (instructions (take (wordsEach * n) (compileSlice L)))) (compile-refused L (λ y. omega (arith, z, y)) .1)
+        ∙ append-nil (lines (x .number))
+        ∙ number-lines T x
+        ∙ ap (λ (n : ℕ). answerLine x ++ cond (isLarger T n) largerListing []) z
+        ∙ ap (λ (n : ℕ). answerLine x ++ behindNumber T n) (sym z)
 
 -- what is printed of what is answered is what the definition says, whatever was read
 pub read-text : (r : Read Tables) → textOfAnswer (answerShown r blank) ≡ printed r

@@ -9,8 +9,8 @@ use Rattle.cells.specs.Limits.{wordsEach}
 use Rattle.code.specs.Op.{Op, instructions}
 use Rattle.text.specs.Listing.{linesFrom}
 use Rattle.text.specs.Page.{linesOf, pageEnd}
-use Rattle.text.specs.Shipped.{badInput, answerLine}
-use Rattle.answering.specs.Answer.{Answered}
+use Rattle.text.specs.Shipped.{badInput}
+use Rattle.answering.specs.Answer.{Answered, numberLines}
 use Rattle.answering.specs.declared.answer.Shown.{Shown}
 use Rattle.answering.specs.declared.pages.Sheet.{Sheet}
 
@@ -22,15 +22,15 @@ bufferSize = 4096
 abbrev pub emptyBuffer : List ℕ
 emptyBuffer = replicate bufferSize 0
 
--- the first line of an answer
+-- what an answer begins with: its first line, or the two for a listing that is larger than is held
 unfoldable pub openingOf : Shown → List ℕ
-openingOf s = cond (s .bad) badInput (answerLine (s .answer))
+openingOf s = cond (s .bad) badInput (numberLines s)
 
--- the code whose lines follow the first line of an answer; behind `bad input` there is none
+-- the code whose lines follow what an answer begins with; behind `bad input` there is none
 unfoldable pub codeOf : Answered → List ℕ
 codeOf a = take (wordsEach * cond (a .shown .bad) 0 (a .shown .length)) (a .code)
 
--- the instructions whose lines follow the first line of an answer
+-- the instructions whose lines follow what an answer begins with
 abbrev pub opsOf : Answered → List Op
 opsOf a = instructions (codeOf a)
 
@@ -47,7 +47,7 @@ spread s buffer = record { sheet = s; buffer = buffer }
 abbrev pub laid : List ℕ → ℕ → List ℕ → Spread
 laid text next buffer = spread (record { from = 0; len = length text; next = next }) (text ++ drop (length text) buffer)
 
--- the first page has the first line; each other begins with an instruction and has as many lines as the buffer is sure to hold
+-- the first page has what the answer begins with; each other begins with an instruction and has as many lines as the buffer is sure to hold
 unfoldable pub pageOf : Answered → Bool → ℕ → List ℕ → Spread
 pageOf a begun from buffer =
     let end = pageEnd (length (opsOf a) - from) (opsOf a) (length buffer) from 0 in

@@ -10,8 +10,8 @@ use cells::limits::Program;
 use intake::shape::ROOM;
 use text::line::Line;
 
-// How many words the longest listing has.
-const CODE: usize = Program::CODE * Program::WORDS;
+// How many words the longest listing has that is held.
+const CODE: usize = Program::HELD * Program::WORDS;
 
 // How many bytes of the input are held at a time, and later of the listing's text.
 const BUFFER: usize = 4096;
@@ -29,7 +29,7 @@ pub fn within_memory() -> bool
     BUFFERS <= MOST
 }
 
-// Room for the longest listing, blank.
+// Room for the longest listing that is held, blank.
 pub fn blank_code() -> [u32; CODE]
     ensures { λ r. ⌜ r ≡ blank ⌝ }
 {

@@ -19,17 +19,20 @@ pub struct Sheet {
     pub next: usize,
 }
 
-// The first line of an answer: `bad input`, or the number with its place.
+// What an answer begins with: `bad input`, or the number with its place, or 11 and that the listing is larger than is held.
 fn opening(shown: Shown) -> Line
     ensures { λ r. ⌜ Holds r (openingOf shown) ⌝ }
 {
     if shown.bad {
         return listing::bad_line();
     }
+    if shown.larger {
+        return listing::larger_lines();
+    }
     listing::answer_line(shown.answer)
 }
 
-// The words of the code whose lines follow the first line of an answer.
+// The words of the code whose lines follow what an answer begins with.
 fn lines(shown: Shown, code: &[u32]) -> &[u32]
     ensures { λ r. ⌜ now r ≡ codeOf (answered shown (now (code .entry))) ⌝ }
 {
@@ -39,7 +42,7 @@ fn lines(shown: Shown, code: &[u32]) -> &[u32]
     words(code, shown.length)
 }
 
-// The page that comes next: the first line, or the lines from an instruction on, or none behind the last.
+// The page that comes next: what the answer begins with, or the lines from an instruction on, or none behind the last.
 pub fn page(shown: Shown, begun: bool, from: usize, code: &[u32], buffer: &mut [u8]) -> Sheet
     requires { ⌜ room ≤ length (now buffer) ⌝ }
     ensures { λ r. ⌜ spread r (now (buffer .exit)) ≡ pageOf (answered shown (now (code .entry))) begun from (now (buffer .entry)) ⌝ }

@@ -36,14 +36,14 @@ cut-wrong-length n cap t h l =
     let kept : length (take cap t) ≡ cap = length-take-le cap t (omega arith) in
     (ap not (ne-eqb (length (take cap t)) n (λ e. omega arith)), ap not (ne-eqb (length t) n (λ e. omega arith)))
 
--- an instance: of ten modes there is room for nine, and either way there are too many
-abbrev ten : List ℕ
-ten = replicate (maxModes + 2) 0
+-- an instance: of two modes too many there is room for one, and either way there are too many
+abbrev too-many : List ℕ
+too-many = replicate (maxModes + 2) 0
 
-ten-modes : (badSlice modeWidth maxModes (take (maxModes + 1) ten) ≡ true) × (badSlice modeWidth maxModes ten ≡ true)
-ten-modes = cut-too-long modeWidth maxModes (omega arith) (maxModes + 1) ten (omega arith) (let many : length ten ≡ maxModes + 2 = refl in omega arith)
+too-many-modes : (badSlice modeWidth maxModes (take (maxModes + 1) too-many) ≡ true) × (badSlice modeWidth maxModes too-many ≡ true)
+too-many-modes = cut-too-long modeWidth maxModes (omega arith) (maxModes + 1) too-many (omega arith) (let many : length too-many ≡ maxModes + 2 = refl in omega arith)
 
--- of 66 readings there is room for 65, and either way they are not 64
+-- of two readings too many there is room for one, and either way they are not as many as there are ports
 abbrev many-readings : List ℕ
 many-readings = replicate (maxPorts + 2) 0
 

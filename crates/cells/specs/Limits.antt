@@ -22,7 +22,7 @@ abbrev pub maxCopies : ℕ
 maxCopies = 256
 
 abbrev pub maxModes : ℕ
-maxModes = 8
+maxModes = 32
 
 abbrev pub maxModePorts : ℕ
 maxModePorts = 256
@@ -61,17 +61,21 @@ abbrev pub maxFrequency : ℕ
 maxFrequency = 64
 
 abbrev pub maxUnits : ℕ
-maxUnits = 64
+maxUnits = 256
 
 -- the most instructions of E code, the words of one, the longest delay of a `future`
 abbrev pub maxCode : ℕ
-maxCode = 4096
+maxCode = 16384
 
 abbrev pub wordsEach : ℕ
 wordsEach = 3
 
 abbrev pub maxDelay : ℕ
 maxDelay = 4096
+
+-- the most instructions that the shipped program holds
+abbrev pub maxHeld : ℕ
+maxHeld = 4096
 
 -- the most that a state may hold: elapsed and remaining ticks of a unit, remaining time of a task
 abbrev pub maxElapsed : ℕ

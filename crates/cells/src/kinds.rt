@@ -2,7 +2,8 @@
 ghost use Prim.Native.Nat.{suc};
 ghost use mathlib.Core.Path.{_≡_};
 ghost use lib.Dec.{eqb};
-ghost use Rattle.cells.specs.Cell.{nameOf};
+ghost use lib.ListN.{getD, set};
+ghost use Rattle.cells.specs.Cell.{nameOf, unnamed};
 
 // A number that names nothing: every table has fewer rows.
 pub const UNNAMED: usize = 255;
@@ -159,5 +160,24 @@ impl Mode {
         ensures { λ r. ⌜ r .0 ≡ nameOf (suc (self .0)) ⌝ }
     {
         Mode(name(self.0 as usize + 1))
+    }
+
+    // The mode that is marked at a place; past the end none.
+    pub fn marked(marks: &[u8], at: usize) -> Mode
+        ensures { λ r. ⌜ r .0 ≡ getD (now (marks .entry)) at unnamed ⌝ }
+    {
+        if at < marks.len() {
+            return Mode(marks[at]);
+        }
+        Mode(UNNAMED as u8)
+    }
+
+    // This mode is marked at a place; past the end nothing is.
+    pub fn mark(self, marks: &mut [u8], at: usize)
+        ensures { λ _. ⌜ now (marks .exit) ≡ set (now (marks .entry)) at (self .0) ⌝ }
+    {
+        if at < marks.len() {
+            marks[at] = self.0;
+        }
     }
 }

@@ -19,7 +19,7 @@ impl Program {
 
     pub const COPIES: usize = 256;
 
-    pub const MODES: usize = 8;
+    pub const MODES: usize = 32;
 
     pub const MODE_PORTS: usize = 256;
 
@@ -43,13 +43,15 @@ impl Program {
 
     pub const FREQUENCY: usize = 64;
 
-    pub const UNITS: usize = 64;
+    pub const UNITS: usize = 256;
     // The most instructions of E code, the words of one, the longest delay of a `future`.
-    pub const CODE: usize = 4096;
+    pub const CODE: usize = 16384;
 
     pub const WORDS: usize = 3;
 
     pub const DELAY: usize = 4096;
+    // The most instructions that the shipped program holds.
+    pub const HELD: usize = 4096;
     // The most that a state may hold: elapsed and remaining ticks of a unit, remaining time of a task.
     pub const ELAPSED: usize = 4096;
 

@@ -1,4 +1,4 @@
-// The table of modes, and addresses by mode: each is read and written by a mode alone.
+// The table of modes, and numbers by mode: each is read and written by a mode alone.
 ghost use mathlib.Core.Path.{_≡_};
 ghost use lib.Dec.{ltb};
 ghost use lib.ListN.{getD, set};
@@ -22,16 +22,16 @@ pub fn period(modes: &[i32], m: Mode) -> usize
     table::field(modes, mode::WIDTH, m.index(), mode::PERIOD)
 }
 
-// The address that mode m has in a list; 0 where there are not so many.
-pub fn address(list: &[usize], m: Mode) -> usize
+// The number that mode m has in a list; 0 where there are not so many.
+pub fn number(list: &[usize], m: Mode) -> usize
     ensures { λ r. ⌜ r ≡ getD (now (list .entry)) (m .0) 0 ⌝ }
 {
     table::count(list, m.index())
 }
 
-// An address is put for mode m; where there are not so many, none is.
-pub fn put_address(list: &mut [usize], m: Mode, address: usize)
-    ensures { λ _. ⌜ now (list .exit) ≡ set (now (list .entry)) (m .0) address ⌝ }
+// A number is put for mode m; where there are not so many, none is.
+pub fn put_number(list: &mut [usize], m: Mode, n: usize)
+    ensures { λ _. ⌜ now (list .exit) ≡ set (now (list .entry)) (m .0) n ⌝ }
 {
-    table::put_count(list, m.index(), address);
+    table::put_count(list, m.index(), n);
 }

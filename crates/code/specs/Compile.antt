@@ -20,7 +20,7 @@ use Rattle.code.specs.declared.Compiled.{Compiled}
 unfoldable pub listingOf : Tables → List Op
 listingOf T = listing (programOf T)
 
--- number 11 outside compiling: E code exceeds 4,096 instructions
+-- number 11 outside compiling: E code exceeds 16,384 instructions
 unfoldable pub codeLong : Tables → Bool
 codeLong T = ltb maxCode (length (listingOf T))
 

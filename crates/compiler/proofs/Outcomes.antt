@@ -14,7 +14,7 @@ use Rattle.theory.proofs.Bools.{neither}
 use Rattle.theory.proofs.Verdict.{next-given, next-none, answer-number, answer-append, answer-within}
 use Rattle.cells.specs.Limits.{maxCode, wordsEach}
 use Rattle.cells.specs.Refusals.{codeRefused}
-use Rattle.program.specs.Tables.{Tables, startMode}
+use Rattle.program.specs.Tables.{Tables, startMode, modeCount}
 use Rattle.program.specs.Program.{programOf}
 use Rattle.rules.specs.Verdict.{shapeRefusal, tableRefusals, programVerdict, programAnswer}
 use Rattle.rules.proofs.Accepted.{accepted-fields}
@@ -22,7 +22,6 @@ use Rattle.rules.proofs.Verdict.{program-number}
 use Rattle.code.specs.Listing.{blockAddress}
 use Rattle.code.specs.Compile.{Compiling, listingOf, codeLong, sliceShort, sliceRefusals, compileRefusals, compileVerdict}
 use Rattle.code.specs.declared.Compiled.{Compiled}
-use Rattle.layout.specs.declared.addresses.Layout.{Layout}
 use Rattle.layout.specs.Layout.{LaidOut}
 use Rattle.words.specs.Written.{Words, three, Written, written, writes}
 use Rattle.compiler.specs.Modes.{allIn}
@@ -93,22 +92,23 @@ module _ (L : Compiling) where
       go false = refl
 
 -- where what was written is the listing, the outcome is that of a program that number 11 passes
-pub all-written : (T : Tables) (a : programVerdict T ≡ acceptedNumber) (layout : Layout) → LaidOut T layout → {start : ℕ} → start ≡ startMode T → (slice exit : List ℕ) (next : ℕ)
-    → written exit next ≡ writes (allIn T (layout .entries) (getD (layout .starts) start 0)) (written slice 0)
-    → (ltb maxCode (layout .length) || ltb (length slice) (wordsEach * layout .length)) ≡ false
+pub all-written : (T : Tables) (a : programVerdict T ≡ acceptedNumber) {starts entries : List ℕ} {n : ℕ} → LaidOut T starts entries n
+    → modeCount T ≤ length starts → modeCount T ≤ length entries → {start : ℕ} → start ≡ startMode T → (slice exit : List ℕ) (next : ℕ)
+    → written exit next ≡ writes (allIn T entries (getD starts start 0)) (written slice 0)
+    → (ltb maxCode n || ltb (length slice) (wordsEach * n)) ≡ false
     → {x : Answer} → x ≡ placeless acceptedNumber
-    → outcome (record { answer = x; length = layout .length }) exit ≡ listed (compiling T slice)
-all-written T a layout laid {start} q slice exit next w b e =
-    ap (λ (x : Answer). outcome (record { answer = x; length = layout .length }) exit) e
+    → outcome (record { answer = x; length = n }) exit ≡ listed (compiling T slice)
+all-written T a {starts} {entries} {n} laid s r {start} q slice exit next w b e =
+    ap (λ (x : Answer). outcome (record { answer = x; length = n }) exit) e
     ∙ ap₂ (λ (n : ℕ) (s : List ℕ). outcome (record { answer = placeless acceptedNumber; length = n }) s) (laid .length)
     (ap (λ (v : Written). v .code) (w ∙ ap (λ (os : List Words). writes os (written slice 0)) same ∙ writes-emit (listingOf T) slice fits))
-    ∙ listed-accepted (compiling T slice) (sym (long-told (compiling T slice) (layout .length) (laid .length)) ∙ b)
+    ∙ listed-accepted (compiling T slice) (sym (long-told (compiling T slice) n (laid .length)) ∙ b)
   where
-    first : getD (layout .starts) start 0 ≡ blockAddress (programOf T) (startMode T) 0
-    first = ap (λ (m : ℕ). getD (layout .starts) m 0) q ∙ laid .starts (startMode T) (accepted-fields T a .start)
+    first : getD starts start 0 ≡ blockAddress (programOf T) (startMode T) 0
+    first = ap (λ (m : ℕ). getD starts m 0) q ∙ laid .starts s (startMode T) (accepted-fields T a .start)
 
-    same : allIn T (layout .entries) (getD (layout .starts) start 0) ≡ map three (listingOf T)
-    same = all-same T a (layout .entries) (laid .entries) (getD (layout .starts) start 0) first
+    same : allIn T entries (getD starts start 0) ≡ map three (listingOf T)
+    same = all-same T a entries (laid .entries r) (getD starts start 0) first
 
     fits : wordsEach * length (listingOf T) ≤ length slice
-    fits = omega (arith, laid .length, ltb-false (length slice) (wordsEach * layout .length) (neither (ltb maxCode (layout .length)) _ b .1))
+    fits = omega (arith, laid .length, ltb-false (length slice) (wordsEach * n) (neither (ltb maxCode n) _ b .1))

@@ -24,16 +24,15 @@ pub fn listed(tables: &[&[i32]; Program::TABLES], first: Mode, code: &mut [u32])
         → programVerdict T ≡ acceptedNumber → outcome r (now (code .exit)) ≡ listed (compiling T (now (code .entry)))) ⌝ }
 {
     let sensors = counts::sensors(tables[tables::PORTS]);
-    let laid = addresses::lay_out(tables, sensors);
-    let n = laid.length;
+    let mut starts = [0; Program::MODES];
+    let mut entries = [0; Program::MODES];
+    let n = addresses::lay_out(tables, sensors, &mut starts, &mut entries);
     if (Program::CODE < n) | (code.len() < Program::WORDS * n) {
         return Compiled {
             answer: answers::refused(refusals::CODE),
             length: 0,
         };
     }
-    let starts = laid.starts;
-    let entries = laid.entries;
     listing::all(code, tables, &starts, &entries, sensors, first);
     Compiled {
         answer: answers::accepted(),

@@ -99,7 +99,7 @@ pub fn all(
         code,
         0,
         numbers::JUMP,
-        cells::modes::address(starts, first),
+        cells::modes::number(starts, first),
         0,
     );
     all_modes(code, tables, entries, sensors)

@@ -1,17 +1,16 @@
--- The layout of the modes of a program, by rule: where a mode begins is the sum of the sizes before it. One mode more is what the
--- code makes; all modes are where the listing has them; and no number exceeds the longest code.
+-- Where the modes of a program begin and are entered, by rule: a mode begins at the sum of the sizes before it. A loop that puts this
+-- into two lists comes to where the listing has the modes; no number exceeds the longest code.
 -- Assumes of the tables that they have no more rows than the limits (`Few`), no more sensors and no more modes.
 use Prim.Native.Nat.{ℕ, zero, suc, _+_, _*_, _≤_, _<_}
-use mathlib.Core.Path.{_≡_, refl, sym, ap, _∙_}
+use mathlib.Core.Path.{_≡_, refl, sym, ap, subst, _∙_}
 use mathlib.Core.List.{List}
-use native.Mathlib.Nat.{add-assoc}
 use native.Mathlib.Numerals.{add-one}
 use native.Mathlib.Omega.{arith}
 use lib.IntN.{ℤ}
-use lib.ListN.{length, getD, set, replicate}
-use Rattle.theory.specs.Lists.{sum}
+use lib.ListN.{length, getD, set}
+use Rattle.theory.specs.Lists.{filled, sum}
 use Rattle.theory.proofs.Lists.{sum-same, sum-most}
-use Rattle.theory.proofs.Filled.{filled, filled-at, filled-most, zeros-at}
+use Rattle.theory.proofs.Filled.{filled-more, filled-length, filled-at, filled-most}
 use Rattle.cells.specs.Limits.{maxPorts, maxModes}
 use Rattle.program.specs.Tables.{Tables, modeCount}
 use Rattle.program.specs.Units.{units}
@@ -21,34 +20,11 @@ use Rattle.program.proofs.Decoded.{mode-count, mode-row}
 use Rattle.code.specs.Listing.{blockSize, modeSize, modeAddress}
 use Rattle.code.specs.Compile.{listingOf}
 use Rattle.code.proofs.Length.{listing-length}
-use Rattle.layout.specs.declared.addresses.Layout.{Layout}
 use Rattle.layout.specs.Counts.{countsIn, countsOf, beforeEntry, sizeOf, mostMode, mostCode}
 use Rattle.layout.specs.Few.{Few}
-use Rattle.layout.specs.Layout.{unitCounts, sizeIn, startIn, laidMore, laidModes, LaidOut, Small}
+use Rattle.layout.specs.Layout.{unitCounts, sizeIn, startIn, entryIn, LaidOut, Small}
 use Rattle.layout.proofs.Limits.{counts-sized, mode-most}
 use Rattle.layout.proofs.Sizes.{counts-due}
-
--- where unit 0 of mode m is entered
-abbrev pub entryIn : Tables → ℕ → ℕ → ℕ
-entryIn T sensors m = startIn T sensors m + beforeEntry (unitCounts T sensors m 0)
-
--- the layout of the first n modes
-abbrev pub laid : Tables → ℕ → ℕ → Layout
-laid T sensors n =
-    record {
-      starts = filled (startIn T sensors) n (replicate maxModes 0);
-      entries = filled (entryIn T sensors) n (replicate maxModes 0);
-      length = startIn T sensors n;
-    }
-
--- layouts are equal where their ends are
-ends : {starts entries : List ℕ} {a b : ℕ} → a ≡ b
-    → _≡_ {A = Layout} (record { starts = starts; entries = entries; length = a }) (record { starts = starts; entries = entries; length = b })
-ends {starts} {entries} e = λ j. record { starts = starts; entries = entries; length = e j }
-
--- a list of zeros has nothing greater than a bound
-zeros-small : {b : ℕ} (i : ℕ) → getD {A = ℕ} (replicate maxModes 0) i 0 ≤ b
-zeros-small i = omega (arith, zeros-at maxModes i)
 
 module _ (T : Tables) {invocations updates switches : List ℤ} {u : ℕ} (m sensors : ℕ) (e : T .invocations ≡ invocations)
     (f : T .updates ≡ updates) (g : T .switches ≡ switches) (q : u ≡ units T m) where
@@ -60,26 +36,7 @@ module _ (T : Tables) {invocations updates switches : List ℤ} {u : ℕ} (m sen
   pub size-lent : sum (λ k. sizeOf (countsIn invocations updates switches sensors m u k)) u ≡ sizeIn T sensors m
   size-lent = λ j. sum (λ k. sizeOf (counts-lent k j)) (q j)
 
--- the layout that the code makes of these two numbers is that with one mode more
-pub more-told : (T : Tables) (sensors m : ℕ) (before : Layout) {a b : ℕ}
-    → a ≡ beforeEntry (unitCounts T sensors m 0) → b ≡ sizeIn T sensors m
-    → _≡_ {A = Layout} (record { starts = set (before .starts) m (before .length); entries = set (before .entries) m (before .length + a); length = before .length + b })
-    (laidMore T sensors m before)
-unfolding laidMore
-more-told T sensors m before p q =
-    λ j. record { starts = set (before .starts) m (before .length); entries = set (before .entries) m (before .length + p j); length = before .length + q j }
-
 module _ (T : Tables) (sensors : ℕ) where
-  -- the layout of the first m modes and mode m is that of the first m + 1
-  pub laid-more : (m : ℕ) → laidMore T sensors m (laid T sensors m) ≡ laid T sensors (m + 1)
-  unfolding laidMore
-  laid-more m = rw (add-one m) (ends (add-assoc 1 (sum (sizeIn T sensors) m) (sizeIn T sensors m)))
-
-  -- the layout of the first n modes is made of them, one after the other
-  pub laid-modes : (n : ℕ) → laid T sensors n ≡ laidModes T sensors n
-  laid-modes zero = refl
-  laid-modes (suc m) = ap (laid T sensors) (sym (add-one m)) ∙ sym (laid-more m) ∙ ap (laidMore T sensors m) (laid-modes m)
-
   module _ (few : Few (T .invocations) (T .updates) (T .switches)) (s : sensors ≤ maxPorts) where
     -- the modes before mode m are no longer than m times the most
     start-most : (m : ℕ) → startIn T sensors m ≤ 1 + m * mostMode
@@ -92,16 +49,6 @@ module _ (T : Tables) (sensors : ℕ) where
     -- a mode that begins where the modes before it end is within the longest code
     pub start-near : (m : ℕ) {at : ℕ} → m < maxModes → at ≡ startIn T sensors m → at + mostMode ≤ mostCode
     start-near m h q = omega (arith, start-most m)
-
-    -- no number of the layout of the first n modes exceeds the longest code
-    pub laid-small : (n : ℕ) → n ≤ maxModes → Small (laid T sensors n)
-    laid-small n l = record {
-      starts = filled-most (startIn T sensors) (replicate maxModes 0) mostCode n (λ i h. omega (arith, start-most i)) zeros-small;
-      entries =
-          filled-most (entryIn T sensors) (replicate maxModes 0) mostCode n
-          (λ i h. omega (arith, start-most i, counts-sized _ _ _ _ i (units T i) few s 0)) zeros-small;
-      length = omega (arith, start-most n);
-    }
 
   -- the program that the tables say
   abbrev P : Program
@@ -124,14 +71,67 @@ module _ (T : Tables) (sensors : ℕ) where
     start-mode m h =
         ap (λ (n : ℕ). 1 + n) (sum-same (sizeIn T sensors) (λ i. modeSize P (mode P i)) m (λ i b. size-mode i (omega arith)))
 
-    -- the layout of all modes is that of the listing
-    pub laid-out : modeCount T ≤ maxModes → LaidOut T (laid T sensors (modeCount T))
-    unfolding listingOf
-    laid-out l = record {
-      starts = λ m h. there (startIn T sensors) m h ∙ omega (arith, start-mode m (omega arith));
-      entries = λ m h. there (entryIn T sensors) m h ∙ omega (arith, start-mode m (omega arith), ap beforeEntry (counts-mode m 0 h));
-      length = start-mode (modeCount T) (omega arith) ∙ ap (modeAddress P) (sym (mode-count T)) ∙ sym (listing-length P);
-    }
-      where
-        there : (f : ℕ → ℕ) (m : ℕ) → m < modeCount T → getD (filled f (modeCount T) (replicate maxModes 0)) m 0 ≡ f m
-        there f m h = filled-at f (replicate maxModes 0) 0 (modeCount T) m l h
+  module _ (starts₀ entries₀ : List ℕ) where
+    -- after m modes the next one begins at this address, and the lists have where the first m begin and are entered
+    pub record Laying (m at : ℕ) (starts entries : List ℕ) : Type 0 where
+      pub in-range : m ≤ modeCount T
+      pub here : at ≡ startIn T sensors m
+      pub begins : starts ≡ filled (startIn T sensors) m starts₀
+      pub enters : entries ≡ filled (entryIn T sensors) m entries₀
+
+    -- before the first mode the lists are as they were lent
+    pub laying-none : Laying 0 1 starts₀ entries₀
+    laying-none = record { in-range = omega arith; here = refl; begins = refl; enters = refl }
+
+    module _ {m at : ℕ} {starts entries : List ℕ} (w : Laying m at starts entries) where
+      -- one mode more is put into the lists
+      pub laying-more : {end : ℕ} {starts′ entries′ : List ℕ} → m < modeCount T → starts′ ≡ set starts m at
+          → entries′ ≡ set entries m (at + beforeEntry (unitCounts T sensors m 0)) → end ≡ at + sizeIn T sensors m → Laying (m + 1) end starts′ entries′
+      laying-more l p q r = record {
+        in-range = omega arith;
+        here = rw (add-one m) (omega (arith, w .here, r));
+        begins = p ∙ filled-more (startIn T sensors) starts₀ m starts at (w .begins) (w .here);
+        enters =
+            q ∙ filled-more (entryIn T sensors) entries₀ m entries _ (w .enters) (ap (λ (n : ℕ). n + beforeEntry (unitCounts T sensors m 0)) (w .here));
+      }
+
+      -- the lists keep their lengths
+      pub lists-length : (length starts ≡ length starts₀) × (length entries ≡ length entries₀)
+      lists-length = (
+        ap length (w .begins) ∙ filled-length (startIn T sensors) starts₀ m,
+        ap length (w .enters) ∙ filled-length (entryIn T sensors) entries₀ m,
+      )
+
+      -- behind the last mode all were put into the lists
+      pub laying-all : modeCount T ≤ m → Laying (modeCount T) at starts entries
+      laying-all l = subst (λ (n : ℕ). Laying n at starts entries) (omega (arith, w .in-range)) w
+
+    module _ {at : ℕ} {starts entries : List ℕ} (w : Laying (modeCount T) at starts entries) where
+      -- the lists say where the listing has the modes, and the last one ends where the listing does
+      pub laid-out : sensors ≡ length (P .sensors) → LaidOut T starts entries at
+      unfolding listingOf
+      laid-out e = record {
+        starts = λ r m h. there (startIn T sensors) starts₀ (w .begins) r m h ∙ omega (arith, start-mode e m (omega arith));
+        entries = λ r m h. there (entryIn T sensors) entries₀ (w .enters) r m h ∙ omega (arith, start-mode e m (omega arith), ap beforeEntry (counts-mode e m 0 h));
+        length = w .here ∙ start-mode e (modeCount T) (omega arith) ∙ ap (modeAddress P) (sym (mode-count T)) ∙ sym (listing-length P);
+      }
+        where
+          there : (f : ℕ → ℕ) (list₀ : List ℕ) {list : List ℕ} → list ≡ filled f (modeCount T) list₀ → modeCount T ≤ length list
+              → (m : ℕ) → m < modeCount T → getD list m 0 ≡ f m
+          there f list₀ q r m h =
+              ap (λ (l : List ℕ). getD l m 0) q
+              ∙ filled-at f list₀ 0 (modeCount T) m (omega (arith, ap length q, filled-length f list₀ (modeCount T))) h
+
+      -- no number exceeds the longest code, where none of the lent lists did
+      pub laid-small : Few (T .invocations) (T .updates) (T .switches) → sensors ≤ maxPorts → modeCount T ≤ maxModes
+          → (Small starts₀ → Small starts) × (Small entries₀ → Small entries) × (at ≤ mostCode)
+      laid-small few s l = (
+        λ z.
+            subst Small (sym (w .begins))
+            (filled-most (startIn T sensors) starts₀ mostCode (modeCount T) (λ i h. omega (arith, start-most few s i)) z),
+        λ z.
+            subst Small (sym (w .enters))
+            (filled-most (entryIn T sensors) entries₀ mostCode (modeCount T)
+            (λ i h. omega (arith, start-most few s i, counts-sized _ _ _ _ i (units T i) few s 0)) z),
+        omega (arith, w .here, start-most few s (modeCount T)),
+      )

@@ -1,25 +1,18 @@
 -- The marks of a listing's delays: of a block only the `future` marks, so they are those that a walk over the modes and units of the
--- tables makes. Assumes of the tables of a program that it is accepted, so that its periods are within the limit.
-use Prim.Native.Nat.{ℕ, zero, suc, _+_, _/_, _≤_, _<_}
+-- tables makes; and those that a walk makes which marks modes, each read as its ticks.
+use Prim.Native.Nat.{ℕ, zero, suc, _+_, _<_}
 use mathlib.Core.Path.{_≡_, refl, sym, ap, _∙_}
-use mathlib.Core.Bool.{Bool, true, false, cond}
-use mathlib.Core.List.{List, [], _∷_, _++_}
+use mathlib.Core.List.{List, [], _∷_, _++_, map}
 use mathlib.Core.Option.{Option}
 use native.Mathlib.Nat.{add-zero}
 use native.Mathlib.Omega.{arith}
-use lib.Dec.{leb}
 use lib.ListN.{length, set}
-use borrow.Author.Tests.{leb-true, le-leb}
 use Rattle.theory.specs.Lists.{Every, cat}
-use Rattle.theory.specs.Verdict.{acceptedNumber}
 use Rattle.theory.proofs.Lists.{cat-length}
-use Rattle.cells.specs.Limits.{maxPeriod}
-use Rattle.program.specs.Tables.{Tables, modeCount, modePeriod}
+use Rattle.program.specs.Tables.{Tables, modeCount}
 use Rattle.program.specs.Units.{units}
 use Rattle.program.specs.Program.{Program, Switch, programOf, mode, ticksOf, dueSwitches}
 use Rattle.program.proofs.Decoded.{mode-count, mode-row}
-use Rattle.rules.specs.Verdict.{programVerdict}
-use Rattle.rules.proofs.Accepted.{accepted-fields}
 use Rattle.code.specs.Op.{Op}
 use Rattle.code.specs.Listing.{blockSize, modeSize, futureAddress, headOf, testsOf, bodyOf, stubsOf, blockCode, modeCode, listing}
 use Rattle.code.specs.Compile.{futureDelay, listingOf}
@@ -27,31 +20,16 @@ use Rattle.code.proofs.Length.{head-length, tests-length, body-length, block-le
 use Rattle.code.proofs.Futures.{Plain, head-plain, tests-plain, body-plain, stubs-plain}
 use Rattle.layout.specs.Counts.{countsIn, countsOf, beforeFuture}
 use Rattle.layout.specs.Layout.{unitCounts}
-use Rattle.layout.specs.Delays.{mark, marked, walked, unitsMarked, heldPeriod, ticksIn, modesMarked}
+use Rattle.layout.specs.Delays.{mark, marked, walked, unitsMarked, modesMarked, ticksIn}
 use Rattle.layout.proofs.Laid.{counts-mode, size-mode}
-use Rattle.layout.proofs.Walked.{walked-same}
+use Rattle.layout.proofs.Walked.{walked-same, walked-mapped}
 
--- a held period is within the limit
-pub held-most : (n : ℕ) → heldPeriod n ≤ maxPeriod
-unfolding heldPeriod
-held-most n = go (leb n maxPeriod) refl
-  where
-    go : (b : Bool) → leb n maxPeriod ≡ b → cond b n maxPeriod ≤ maxPeriod
-    go true e = leb-true n maxPeriod e
-    go false e = omega arith
-
--- a period within the limit is held as it is
-held-small : (n : ℕ) → n ≤ maxPeriod → heldPeriod n ≡ n
-unfolding heldPeriod
-held-small n l = simp (le-leb n maxPeriod l)
-
--- the marks of mode m by the number of its units and its held period
-pub marks-told : (T : Tables) {u period : ℕ} (m sensors at : ℕ) (table : List ℕ)
-    → u ≡ units T m → period ≡ heldPeriod (modePeriod T m)
-    → unitsMarked (countsIn (T .invocations) (T .updates) (T .switches) sensors m u) (period / u) at u table
-    ≡ unitsMarked (unitCounts T sensors m) (ticksIn T m) at (units T m) table
-marks-told T m sensors at table q p =
-    λ j. unitsMarked (countsIn (T .invocations) (T .updates) (T .switches) sensors m (q j)) (p j / q j) at (q j) table
+-- the marks of mode m by the number of its units
+pub marks-told : (T : Tables) {u : ℕ} (m sensors at : ℕ) (table : List ℕ) → u ≡ units T m
+    → unitsMarked (countsIn (T .invocations) (T .updates) (T .switches) sensors m u) m at u table
+    ≡ unitsMarked (unitCounts T sensors m) m at (units T m) table
+marks-told T m sensors at table q =
+    λ j. unitsMarked (countsIn (T .invocations) (T .updates) (T .switches) sensors m (q j)) m at (q j) table
 
 -- the marks of two pieces are those of the first and then of the second, behind it
 marked-append : (xs ys : List Op) (a : ℕ) (table : List ℕ) → marked (xs ++ ys) a table ≡ marked ys (a + length xs) (marked xs a table)
@@ -112,27 +90,38 @@ mode-marked P m a table =
     cat-marked (blockCode P m) (blockSize P (mode P m)) (mode P m .units) a table (λ k l. block-length P m k)
     ∙ walked-same _ _ _ _ a (mode P m .units) table (λ k l. refl) (λ k at t l. block-marked P m k at t)
 
-module _ (T : Tables) (sensors : ℕ) (e : sensors ≡ length (programOf T .sensors)) (v : programVerdict T ≡ acceptedNumber) where
+module _ (T : Tables) (sensors : ℕ) (e : sensors ≡ length (programOf T .sensors)) where
   -- the program that the tables say
   abbrev P : Program
   P = programOf T
-
-  -- the ticks of a unit of a declared mode
-  ticks-mode : (m : ℕ) → m < modeCount T → ticksOf (mode P m) ≡ ticksIn T m
-  ticks-mode m h =
-      ap ticksOf (mode-row T m h) ∙ ap (λ (n : ℕ). n / units T m) (sym (held-small _ (accepted-fields T v .modes m h .1)))
 
   -- the marks of a declared mode, counted
   row-marked : (m a : ℕ) (table : List ℕ) → m < modeCount T
       → marked (modeCode P m) a table ≡ unitsMarked (unitCounts T sensors m) (ticksIn T m) a (units T m) table
   row-marked m a table h =
       mode-marked P m a table
-      ∙ (λ j. unitsMarked (λ k. sym (counts-mode T sensors e m k h) j) (ticks-mode m h j) a (mode-row T m h j .units) table)
+      ∙ (λ j. unitsMarked (λ k. sym (counts-mode T sensors e m k h) j) (ticksOf (mode-row T m h j)) a (mode-row T m h j .units) table)
 
   -- the marks of the listing are those of all modes, counted
-  pub listing-marked : (table : List ℕ) → marked (listingOf T) 0 table ≡ modesMarked T sensors (modeCount T) table
+  pub listing-marked : (table : List ℕ) → marked (listingOf T) 0 table ≡ modesMarked T sensors (ticksIn T) (modeCount T) table
   unfolding listingOf listing
   listing-marked table =
       cat-marked (modeCode P) (λ m. modeSize P (mode P m)) (length (P .modes)) 1 table (λ m l. mode-length P m)
       ∙ ap (λ (n : ℕ). walked (λ m. modeSize P (mode P m)) (λ m. marked (modeCode P m)) 1 n table) (mode-count T)
       ∙ walked-same _ _ _ _ 1 (modeCount T) table (λ m h. sym (size-mode T sensors e m h)) (λ m at t h. row-marked m at t h)
+
+-- a number that is put, every number read by f, is read so
+map-set : (f : ℕ → ℕ) (l : List ℕ) (i x : ℕ) → map f (set l i x) ≡ set (map f l) i (f x)
+map-set f [] i x = refl
+map-set f (y ∷ l) zero x = refl
+map-set f (y ∷ l) (suc i) x = ap (λ (t : List ℕ). f y ∷ t) (map-set f l i x)
+
+-- the marks of modes, each read by f, are the marks of what f says of the modes
+pub modes-read : (f : ℕ → ℕ) (T : Tables) (sensors : ℕ) (given given′ : ℕ → ℕ) (n : ℕ) (table : List ℕ)
+    → ((m : ℕ) → m < n → f (given m) ≡ given′ m)
+    → map f (modesMarked T sensors given n table) ≡ modesMarked T sensors given′ n (map f table)
+modes-read f T sensors given given′ n table e =
+    walked-mapped f _ _ _ 1 n table
+    (λ m at t h.
+    walked-mapped f _ _ (λ k b r. set r (b + beforeFuture (unitCounts T sensors m k)) (f (given m))) at (units T m) t (λ k b r l. map-set f r _ _)
+    ∙ ap (λ (x : ℕ). unitsMarked (unitCounts T sensors m) x at (units T m) (map f t)) (e m h))

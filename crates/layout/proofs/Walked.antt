@@ -1,8 +1,8 @@
 -- A walk over pieces that stand one after the other, each of which does something to a table at its address: what a loop over them
--- has done after some of them, and when two walks come to the same.
+-- has done after some of them, when two walks come to the same, and what a walk comes to when every number of the table is read anew.
 use Prim.Native.Nat.{ℕ, zero, suc, _+_, _≤_, _<_}
 use mathlib.Core.Path.{_≡_, refl, sym, ap, _∙_}
-use mathlib.Core.List.{List}
+use mathlib.Core.List.{List, map}
 use native.Mathlib.Nat.{add-zero, add-assoc}
 use native.Mathlib.Numerals.{add-one}
 use native.Mathlib.Omega.{arith}
@@ -63,3 +63,12 @@ walked-same size size′ step step′ a (suc n) table e h =
     let s = sum-same size size′ n (λ k l. e k (omega arith)) in
     let r = walked-same size size′ step step′ a n table (λ k l. e k (omega arith)) (λ k at t l. h k at t (omega arith)) in
     (λ j. step n (a + s j) (r j)) ∙ h n (a + sum size′ n) (walked size′ step′ a n table) (omega arith)
+
+-- a walk comes, every number read by f, to the walk whose steps do so, from the table that is read so
+pub walked-mapped : (f : ℕ → ℕ) (size : ℕ → ℕ) (step step′ : ℕ → ℕ → List ℕ → List ℕ) (a n : ℕ) (table : List ℕ)
+    → ((k at : ℕ) (t : List ℕ) → k < n → map f (step k at t) ≡ step′ k at (map f t))
+    → map f (walked size step a n table) ≡ walked size step′ a n (map f table)
+walked-mapped f size step step′ a zero table h = refl
+walked-mapped f size step step′ a (suc n) table h =
+    h n (a + sum size n) (walked size step a n table) (omega arith)
+    ∙ ap (step′ n (a + sum size n)) (walked-mapped f size step step′ a n table (λ k at t l. h k at t (omega arith)))

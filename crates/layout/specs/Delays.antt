@@ -1,13 +1,14 @@
--- The delays of a code's `future`s as a table: at each address the delay of the `future` that stands there, 0 where none does.
+-- The delays of a code's `future`s by address, 0 where none stands: as a table; and, since all delays of a mode are the ticks of its
+-- unit, as marks of the modes whose `future`s stand there with the ticks of each mode.
 use Prim.Native.Nat.{ℕ, zero, suc, _+_, _/_}
-use mathlib.Core.Bool.{cond}
 use mathlib.Core.List.{List, [], _∷_}
 use mathlib.Core.Option.{Option, none, some}
-use lib.Dec.{leb}
-use lib.ListN.{set}
-use Rattle.theory.specs.Lists.{sum}
-use Rattle.cells.specs.Limits.{maxPeriod}
-use Rattle.program.specs.Tables.{Tables, modePeriod}
+use lib.ListN.{length, getD, set, replicate}
+use Rattle.theory.specs.Lists.{filled, sum}
+use Rattle.cells.specs.Cell.{unnamed}
+use Rattle.cells.specs.Limits.{maxModes, maxCode}
+use Rattle.program.specs.Tables.{Tables, modeCount, modePeriod}
+use Rattle.program.specs.Sets.{sensorRows}
 use Rattle.program.specs.Units.{units}
 use Rattle.code.specs.Op.{Op}
 use Rattle.code.specs.Compile.{futureDelay}
@@ -35,18 +36,31 @@ abbrev pub walked : (ℕ → ℕ) → (ℕ → ℕ → List ℕ → List ℕ) �
 walked size step a zero table = table
 walked size step a (suc n) table = step n (a + sum size n) (walked size step a n table)
 
--- the ticks at the `future` of each of the first n units of a mode, which begins at address a
+-- a number at the `future` of each of the first n units of a mode, which begins at address a
 abbrev pub unitsMarked : (ℕ → Counts) → ℕ → ℕ → ℕ → List ℕ → List ℕ
-unitsMarked counts ticks = walked (λ k. sizeOf (counts k)) (λ k at table. set table (at + beforeFuture (counts k)) ticks)
+unitsMarked counts x = walked (λ k. sizeOf (counts k)) (λ k at table. set table (at + beforeFuture (counts k)) x)
 
--- the period of a mode, held at the limit
-unfoldable pub heldPeriod : ℕ → ℕ
-heldPeriod n = cond (leb n maxPeriod) n maxPeriod
+-- the number that each of the first n modes is given at the `future` of each of its units, behind the jump at address 0
+abbrev pub modesMarked : Tables → ℕ → (ℕ → ℕ) → ℕ → List ℕ → List ℕ
+modesMarked T sensors given =
+    walked (sizeIn T sensors) (λ m at table. unitsMarked (unitCounts T sensors m) (given m) at (units T m) table) 1
+
+-- every mode at the `future` of each of its units
+abbrev pub modeMarks : Tables → List ℕ → List ℕ
+modeMarks T = modesMarked T (length (sensorRows (T .ports) (λ p. p))) (λ m. m) (modeCount T)
 
 -- the ticks of a unit of mode m
 abbrev pub ticksIn : Tables → ℕ → ℕ
-ticksIn T m = heldPeriod (modePeriod T m) / units T m
+ticksIn T m = modePeriod T m / units T m
 
--- the ticks at the `future` of each unit of each of the first n modes, behind the jump at address 0
-abbrev pub modesMarked : Tables → ℕ → ℕ → List ℕ → List ℕ
-modesMarked T sensors = walked (sizeIn T sensors) (λ m at table. unitsMarked (unitCounts T sensors m) (ticksIn T m) at (units T m) table) 1
+-- the ticks of a unit of each mode, by mode
+abbrev pub modeTicks : Tables → List ℕ → List ℕ
+modeTicks T = filled (ticksIn T) (modeCount T)
+
+-- the delay at each address: the ticks of the mode that is marked there; where none is, `unnamed` is, and past the end stands 0
+unfoldable pub delaysOf : List ℕ → List ℕ → ℕ → ℕ
+delaysOf marks ticks a = getD ticks (getD marks a unnamed) 0
+
+-- the delays that are counted from the tables
+abbrev pub countedDelays : Tables → ℕ → ℕ
+countedDelays T = delaysOf (modeMarks T (replicate maxCode unnamed)) (modeTicks T (replicate maxModes 0))

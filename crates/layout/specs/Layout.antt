@@ -1,16 +1,15 @@
--- Where the modes of a listing stand: one mode more, counted from the tables; and what a layout of all says of the listing.
-use Prim.Native.Nat.{ℕ, zero, suc, _+_, _≤_, _<_}
+-- Where the modes of a listing begin and are entered, counted from the tables; and what lists of that say of the listing.
+use Prim.Native.Nat.{ℕ, _+_, _≤_, _<_}
 use mathlib.Core.Path.{_≡_}
-use lib.ListN.{length, getD, set, replicate}
+use mathlib.Core.List.{List}
+use lib.ListN.{length, getD}
 use Rattle.theory.specs.Lists.{sum}
-use Rattle.cells.specs.Limits.{maxModes}
 use Rattle.program.specs.Tables.{Tables, modeCount}
 use Rattle.program.specs.Units.{units}
 use Rattle.program.specs.Program.{programOf}
 use Rattle.code.specs.Listing.{blockAddress, entryAddress}
 use Rattle.code.specs.Compile.{listingOf}
 use Rattle.layout.specs.declared.counts.Counts.{Counts}
-use Rattle.layout.specs.declared.addresses.Layout.{Layout}
 use Rattle.layout.specs.Counts.{countsIn, beforeEntry, sizeOf, mostCode}
 
 -- how many rows of these tables are due at unit k of mode m
@@ -25,28 +24,16 @@ sizeIn T sensors m = sum (λ k. sizeOf (unitCounts T sensors m k)) (units T m)
 abbrev pub startIn : Tables → ℕ → ℕ → ℕ
 startIn T sensors m = 1 + sum (sizeIn T sensors) m
 
--- the layout with mode m, which begins where the modes before it end
-unfoldable pub laidMore : Tables → ℕ → ℕ → Layout → Layout
-laidMore T sensors m before =
-    record {
-      starts = set (before .starts) m (before .length);
-      entries = set (before .entries) m (before .length + beforeEntry (unitCounts T sensors m 0));
-      length = before .length + sizeIn T sensors m;
-    }
+-- where unit 0 of mode m is entered
+abbrev pub entryIn : Tables → ℕ → ℕ → ℕ
+entryIn T sensors m = startIn T sensors m + beforeEntry (unitCounts T sensors m 0)
 
--- the layout of the first n modes, behind the jump at address 0
-abbrev pub laidModes : Tables → ℕ → ℕ → Layout
-laidModes T sensors zero = record { starts = replicate maxModes 0; entries = replicate maxModes 0; length = 1 }
-laidModes T sensors (suc m) = laidMore T sensors m (laidModes T sensors m)
+-- lists with room for all modes say where each begins and where its unit 0 is entered; the end is that of the listing
+pub record LaidOut (T : Tables) (begins enters : List ℕ) (end : ℕ) : Type 0 where
+  pub starts : modeCount T ≤ length begins → (m : ℕ) → m < modeCount T → getD begins m 0 ≡ blockAddress (programOf T) m 0
+  pub entries : modeCount T ≤ length enters → (m : ℕ) → m < modeCount T → getD enters m 0 ≡ entryAddress (programOf T) m 0
+  pub length : end ≡ length (listingOf T)
 
--- the layout says where each declared mode of these tables begins, where its unit 0 is entered, and how long the listing is
-pub record LaidOut (T : Tables) (l : Layout) : Type 0 where
-  pub starts : (m : ℕ) → m < modeCount T → getD (l .starts) m 0 ≡ blockAddress (programOf T) m 0
-  pub entries : (m : ℕ) → m < modeCount T → getD (l .entries) m 0 ≡ entryAddress (programOf T) m 0
-  pub length : l .length ≡ length (listingOf T)
-
--- no number of a layout exceeds the longest code, so that each fits a word
-pub record Small (l : Layout) : Type 0 where
-  pub starts : (m : ℕ) → getD (l .starts) m 0 ≤ mostCode
-  pub entries : (m : ℕ) → getD (l .entries) m 0 ≤ mostCode
-  pub length : l .length ≤ mostCode
+-- no number of a list exceeds the longest code, so that each fits a word
+abbrev pub Small : List ℕ → Type 0
+Small list = (m : ℕ) → getD list m 0 ≤ mostCode

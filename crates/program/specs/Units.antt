@@ -31,7 +31,7 @@ isMultiple T m u =
     || any (rowMisses updateWidth (T .updates) m u) (updateCount T)
     || any (rowMisses switchWidth (T .switches) m u) (switchCount T))
 
--- the least number from 1 to 64 that is a multiple of every frequency of mode m; 65 where there is none
+-- the least number from 1 to 256 that is a multiple of every frequency of mode m; 257 where there is none
 unfoldable pub units : Tables → ℕ → ℕ
 units T m = suc (first (λ u. isMultiple T m (suc u)) maxUnits)
 

@@ -11,7 +11,7 @@ use Rattle.program.specs.Tables.{Tables, modeCount, modePeriod, invocationCount
 use Rattle.program.specs.Tables.{switchMode, switchFrequency, modesAt, switchesAt}
 use Rattle.program.specs.Units.{misses, units, Units}
 
--- 9: the least common multiple of the frequencies of mode m exceeds 64 or does not divide its period
+-- 9: the least common multiple of the frequencies of mode m exceeds 256 or does not divide its period
 unfoldable pub unitsWrong : Tables → ℕ → Bool
 unitsWrong T m = ltb maxUnits (units T m) || misses (modePeriod T m) (units T m)
 
@@ -19,18 +19,18 @@ unitsWrong T m = ltb maxUnits (units T m) || misses (modePeriod T m) (units T m)
 abbrev pub unitTests : Tables → List RowTests
 unitTests T = testing modesAt (modeCount T) (unitsWrong T) ∷ []
 
--- number 9: in some mode, the least common multiple of the frequencies exceeds 64 or does not divide the period
+-- number 9: in some mode, the least common multiple of the frequencies exceeds 256 or does not divide the period
 unfoldable pub unitsBad : Tables → Bool
 unitsBad T = someBad (unitTests T)
 
--- the least common multiple of the frequencies of mode m is at most 64 and divides its period
+-- the least common multiple of the frequencies of mode m is at most 256 and divides its period
 pub record ModeUnits (T : Tables) (m : ℕ) : Type 0 where
   pub count : ℕ
   pub is-least : Units T m count
   pub few : count ≤ maxUnits
   pub divides : count ∣ modePeriod T m
 
--- rule 9: in every mode, the least common multiple of the frequencies is at most 64 and divides the period
+-- rule 9: in every mode, the least common multiple of the frequencies is at most 256 and divides the period
 abbrev pub UnitsFit : Tables → Type 0
 UnitsFit T = (m : ℕ) → m < modeCount T → ModeUnits T m
 

@@ -1,45 +1,41 @@
--- The table of delays that is counted from a program's tables says what the schedule rows are held against: whether a `future` stands
--- at an address, and whether a timeout is within its delay; so rows are tested by the table as by the listing.
+-- The delays that are counted from a program's tables say what the schedule rows are held against: whether a `future` stands at an
+-- address, and whether a timeout is within its delay; so rows are tested by them as by the listing.
 -- Assumes that the program is accepted and that number 11 passes it.
 use Prim.Native.Nat.{ℕ, _-_, _≤_}
-use mathlib.Core.Path.{_≡_, refl, sym, ap, subst, _∙_}
+use mathlib.Core.Path.{_≡_, refl, ap, _∙_}
 use mathlib.Core.Bool.{Bool, not, _&&_, _||_}
 use mathlib.Core.List.{List}
 use mathlib.Core.Option.{Option, none, some}
 use lib.Dec.{ltb, leb}
 use lib.IntN.{ℤ}
-use lib.ListN.{length, replicate}
 use borrow.Author.Tests.{lt-ltb}
 use Rattle.theory.specs.Verdict.{acceptedNumber}
-use Rattle.cells.specs.Limits.{suppliers, maxCode}
+use Rattle.cells.specs.Limits.{suppliers}
 use Rattle.program.specs.Tables.{Tables}
-use Rattle.program.proofs.Decoded.{sensors-rows}
 use Rattle.rules.specs.Verdict.{programVerdict}
+use Rattle.rules.proofs.Accepted.{accepted-clear}
 use Rattle.code.specs.Compile.{listingOf, CodeFits, delayAt}
-use Rattle.layout.specs.Delays.{delayNumber, marked}
-use Rattle.layout.proofs.Delay.{table-exact, delay-in-range}
-use Rattle.layout.proofs.Marks.{listing-marked}
+use Rattle.layout.specs.Delays.{delayNumber, countedDelays}
+use Rattle.layout.proofs.Limits.{few-modes}
+use Rattle.layout.proofs.Delay.{counted-exact, delay-in-range}
 use Rattle.runs.specs.Schedule.{rowSupplier, rowAddress, rowTimeout}
 use Rattle.suppliers.specs.Schedule.{inDelay, delayFits, Tabled, dispatchFits, idleFits, precedes, rowWrong, partTestsBy, partTests}
 use Rattle.suppliers.specs.Schedule.{joinedTestsBy, joinedTests}
-use Rattle.suppliers.specs.Delays.{countedDelays, rowWrongBy, partTestsIn, joinedTestsIn}
+use Rattle.suppliers.specs.Delays.{rowWrongBy, partTestsIn, joinedTestsIn}
 
--- a word that is the delay, and 0 where there is none, is read as the delay is, since no delay is 0
-word-says : (timeout word : ℕ) (o : Option ℕ) → word ≡ delayNumber o → ((d : ℕ) → o ≡ some d → 1 ≤ d)
-    → (ltb 0 word && leb timeout word) ≡ inDelay o timeout
-word-says timeout word none e h = ap (λ (n : ℕ). ltb 0 n && leb timeout n) e
-word-says timeout word (some d) e h =
-    ap (λ (n : ℕ). ltb 0 n && leb timeout n) e ∙ ap (λ (b : Bool). b && leb timeout d) (lt-ltb 0 d (h d refl))
+-- a number that is the delay, and 0 where there is none, is read as the delay is, since no delay is 0
+delay-says : (timeout n : ℕ) (o : Option ℕ) → n ≡ delayNumber o → ((d : ℕ) → o ≡ some d → 1 ≤ d)
+    → (ltb 0 n && leb timeout n) ≡ inDelay o timeout
+delay-says timeout n none e h = ap (λ (x : ℕ). ltb 0 x && leb timeout x) e
+delay-says timeout n (some d) e h =
+    ap (λ (x : ℕ). ltb 0 x && leb timeout x) e ∙ ap (λ (b : Bool). b && leb timeout d) (lt-ltb 0 d (h d refl))
 
--- the table that has the delays of the listing says what the listing says
-table-says : (T : Tables) → programVerdict T ≡ acceptedNumber → CodeFits T → Tabled T (marked (listingOf T) 0 (replicate maxCode 0))
-unfolding delayFits
-table-says T v l a timeout =
-    word-says timeout _ (delayAt (listingOf T) a) (table-exact (listingOf T) l a) (λ d e. delay-in-range T v a d e .0)
-
--- the table of delays that is counted from the tables says what the listing says
+-- the delays that are counted from the tables say what the listing says
 counted-says : (T : Tables) → programVerdict T ≡ acceptedNumber → CodeFits T → Tabled T (countedDelays T)
-counted-says T v l = subst (Tabled T) (listing-marked T _ (ap length (sym (sensors-rows T))) v (replicate maxCode 0)) (table-says T v l)
+unfolding delayFits
+counted-says T v l a timeout =
+    delay-says timeout _ (delayAt (listingOf T) a) (counted-exact T (few-modes T (accepted-clear T v .0)) l a)
+    (λ d e. delay-in-range T v a d e .0)
 
 module _ (T : Tables) (v : programVerdict T ≡ acceptedNumber) (l : CodeFits T) (S : List ℤ) where
   -- a row is wrong by the counted delays as by the listing

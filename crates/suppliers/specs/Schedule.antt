@@ -12,7 +12,6 @@ use lib.IntN.{ℤ}
 use lib.ListN.{length}
 use Rattle.theory.specs.Lists.{those}
 use Rattle.theory.specs.Rows.{RowTests, testing, someBad, RowRules, asking}
-use Rattle.cells.specs.Cell.{wordAt}
 use Rattle.cells.specs.Limits.{suppliers, maxPart}
 use Rattle.cells.specs.Refusals.{scheduleRefused}
 use Rattle.program.specs.Tables.{Tables, taskCount, taskSupplier, scheduleAt, supplierAt}
@@ -29,12 +28,12 @@ abbrev pub inDelay : Option ℕ → ℕ → Bool
 inDelay none timeout = false
 inDelay (some d) timeout = leb timeout d
 
--- a table of delays has a delay at address a, and the timeout is within it; 0 stands where there is no delay
-unfoldable pub delayFits : List ℕ → ℕ → ℕ → Bool
-delayFits delays a timeout = ltb 0 (wordAt delays a) && leb timeout (wordAt delays a)
+-- there is a delay at address a, and the timeout is within it; it is 0 where there is none
+unfoldable pub delayFits : (ℕ → ℕ) → ℕ → ℕ → Bool
+delayFits delays a timeout = ltb 0 (delays a) && leb timeout (delays a)
 
--- a table of delays says of every address and timeout what the listing says
-abbrev pub Tabled : Tables → List ℕ → Type 0
+-- the delays say of every address and timeout what the listing says
+abbrev pub Tabled : Tables → (ℕ → ℕ) → Type 0
 Tabled T delays = (a timeout : ℕ) → delayFits delays a timeout ≡ inDelay (delayAt (listingOf T) a) timeout
 
 -- row i is a dispatch of a declared task of the row's supplier (`dispatchFits`), or an idle row and has task 0 (`idleFits`)

@@ -7,10 +7,12 @@ ghost use Rattle.program.specs.Tables.{tablesIn};
 ghost use Rattle.rules.specs.Shape.{InShape};
 ghost use Rattle.rules.specs.Verdict.{programVerdict};
 ghost use Rattle.code.specs.Compile.{CodeFits};
+ghost use Rattle.layout.specs.Delays.{countedDelays};
 ghost use Rattle.suppliers.specs.Schedule.{joinedTests};
-ghost use Rattle.suppliers.specs.Delays.{countedDelays, joinedTestsIn};
+ghost use Rattle.suppliers.specs.Delays.{joinedTestsIn};
 use crate::schedule_rows;
 use cells::columns::schedule;
+use cells::kinds::UNNAMED;
 use cells::limits::Program;
 use cells::refusals;
 use cells::tables;
@@ -25,9 +27,10 @@ pub fn answer(tables: &[&[i32]; Program::TABLES], rows: &[i32]) -> Answer
     ensures listed { λ r. ⌜ ((start : ℤ) → let T = tablesIn (now (tables .entry)) start in
         programVerdict T ≡ acceptedNumber → CodeFits T → r ≡ rowsAnswer scheduleRefused (joinedTests T (now (rows .entry)))) ⌝ }
 {
-    let mut table = [0u32; Program::CODE];
-    delays::fill(tables, &mut table);
+    let mut marks = [UNNAMED as u8; Program::CODE];
+    let mut ticks = [0usize; Program::MODES];
+    delays::fill(tables, &mut marks, &mut ticks);
     let n = rows.len() / schedule::WIDTH;
-    let wrong = schedule_rows::first_wrong_joined(tables[tables::TASKS], &table, rows);
+    let wrong = schedule_rows::first_wrong_joined(tables[tables::TASKS], &marks, &ticks, rows);
     answers::found(refusals::SCHEDULE, tables::SCHEDULE, wrong, n)
 }

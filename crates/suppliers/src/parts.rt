@@ -1,4 +1,4 @@
-// Number 13 of one supplier's part: the delays of its program's listing are put in a table, and the rows held against it.
+// Number 13 of one supplier's part: the delays of its program are counted by address, and the rows held against them.
 ghost use mathlib.Core.Path.{_≡_};
 ghost use mathlib.Core.List.{[], _∷_};
 ghost use lib.Dec.{leb};
@@ -11,10 +11,12 @@ ghost use Rattle.program.specs.Tables.{tablesIn, supplierAt};
 ghost use Rattle.rules.specs.Shape.{InShape};
 ghost use Rattle.rules.specs.Verdict.{programVerdict};
 ghost use Rattle.code.specs.Compile.{CodeFits};
+ghost use Rattle.layout.specs.Delays.{countedDelays};
 ghost use Rattle.suppliers.specs.Schedule.{partTests};
-ghost use Rattle.suppliers.specs.Delays.{countedDelays, partTestsIn};
+ghost use Rattle.suppliers.specs.Delays.{partTestsIn};
 use crate::schedule_rows;
 use cells::columns::schedule;
+use cells::kinds::UNNAMED;
 use cells::limits::Program;
 use cells::refusals;
 use cells::tables;
@@ -39,10 +41,17 @@ pub fn answer(tables: &[&[i32]; Program::TABLES], rows: &[i32], supplier: usize)
     ensures listed { λ r. ⌜ ((start : ℤ) → let T = tablesIn (now (tables .entry)) start in
         programVerdict T ≡ acceptedNumber → CodeFits T → r ≡ rowsAnswer scheduleRefused (partTests T (now (rows .entry)) supplier)) ⌝ }
 {
-    let mut table = [0u32; Program::CODE];
-    delays::fill(tables, &mut table);
+    let mut marks = [UNNAMED as u8; Program::CODE];
+    let mut ticks = [0usize; Program::MODES];
+    delays::fill(tables, &mut marks, &mut ticks);
     let n = rows.len() / schedule::WIDTH;
-    let wrong = schedule_rows::first_wrong_in_part(tables[tables::TASKS], &table, rows, supplier);
+    let wrong = schedule_rows::first_wrong_in_part(
+        tables[tables::TASKS],
+        &marks,
+        &ticks,
+        rows,
+        supplier,
+    );
     if n <= wrong {
         return asked(supplier);
     }

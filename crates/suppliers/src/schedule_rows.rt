@@ -6,6 +6,7 @@ ghost use Prim.Native.Nat.{_-_};
 ghost use lib.Dec.{eqb};
 ghost use Rattle.theory.specs.Search.{first};
 ghost use Rattle.program.specs.Tables.{Tables};
+ghost use Rattle.layout.specs.Delays.{delaysOf};
 ghost use Rattle.runs.specs.Schedule.{scheduleCount, rowSupplier, rowAddress, rowTimeout};
 ghost use Rattle.suppliers.specs.Schedule.{delayFits, dispatchFits, idleFits, precedes, pastPart};
 ghost use Rattle.suppliers.specs.Delays.{rowWrongBy};
@@ -17,12 +18,13 @@ use cells::tasks;
 use layout::delays;
 
 // A `future` stands at the address of row i, and the timeout of row i is within the delay of that `future`.
-fn delay_fits(delays: &[u32], rows: &[i32], i: usize) -> bool
-    ensures { λ r. ⌜ r ≡ delayFits (now (delays .entry)) (rowAddress (now (rows .entry)) i) (rowTimeout (now (rows .entry)) i) ⌝ }
+fn delay_fits(marks: &[u8], ticks: &[usize], rows: &[i32], i: usize) -> bool
+    ensures { λ r. ⌜ (let S = now (rows .entry) in
+        r ≡ delayFits (delaysOf (now (marks .entry)) (now (ticks .entry))) (rowAddress S i) (rowTimeout S i)) ⌝ }
 {
     let address = table::field(rows, schedule::WIDTH, i, schedule::ADDRESS);
     let timeout = table::field(rows, schedule::WIDTH, i, schedule::TIMEOUT);
-    let delay = delays::delay(delays, address);
+    let delay = delays::delay(marks, ticks, address);
     (0 < delay) & (timeout <= delay)
 }
 
@@ -68,33 +70,48 @@ fn above(i: usize) -> usize
 }
 
 // Row i breaks number 13: it is wrong by itself, or comes before the row above it.
-fn row_wrong(tasks: &[i32], delays: &[u32], rows: &[i32], i: usize) -> bool
-    ensures { λ r. ⌜ ((T : Tables) → T .tasks ≡ now (tasks .entry) → r ≡ rowWrongBy T (now (delays .entry)) (now (rows .entry)) i) ⌝ }
+fn row_wrong(tasks: &[i32], marks: &[u8], ticks: &[usize], rows: &[i32], i: usize) -> bool
+    ensures { λ r. ⌜ ((T : Tables) → T .tasks ≡ now (tasks .entry)
+        → r ≡ rowWrongBy T (delaysOf (now (marks .entry)) (now (ticks .entry))) (now (rows .entry)) i) ⌝ }
 {
     let supplier = table::field(rows, schedule::WIDTH, i, schedule::SUPPLIER);
     let action = dispatch_fits(tasks, rows, i) | idle_fits(rows, i);
-    let fits = (supplier < Program::SUPPLIERS) & action & delay_fits(delays, rows, i);
+    let fits = (supplier < Program::SUPPLIERS) & action & delay_fits(marks, ticks, rows, i);
     !fits | precedes(rows, i, above(i))
 }
 
 // Row i of the part of this supplier is refused: it breaks number 13, or is of another supplier.
-fn refused_in_part(tasks: &[i32], delays: &[u32], rows: &[i32], supplier: usize, i: usize) -> bool
-    ensures { λ r. ⌜ ((T : Tables) → T .tasks ≡ now (tasks .entry)
-        → r ≡ (rowWrongBy T (now (delays .entry)) (now (rows .entry)) i || not (eqb (rowSupplier (now (rows .entry)) i) supplier))) ⌝ }
+fn refused_in_part(
+    tasks: &[i32],
+    marks: &[u8],
+    ticks: &[usize],
+    rows: &[i32],
+    supplier: usize,
+    i: usize,
+) -> bool
+    ensures { λ r. ⌜ ((T : Tables) → T .tasks ≡ now (tasks .entry) → let S = now (rows .entry) in
+        r ≡ (rowWrongBy T (delaysOf (now (marks .entry)) (now (ticks .entry))) S i || not (eqb (rowSupplier S i) supplier))) ⌝ }
 {
     let own = table::field(rows, schedule::WIDTH, i, schedule::SUPPLIER) == supplier;
-    row_wrong(tasks, delays, rows, i) | !own
+    row_wrong(tasks, marks, ticks, rows, i) | !own
 }
 
 // The lowest row of the part of this supplier that is refused; the number of rows where none is.
-pub fn first_wrong_in_part(tasks: &[i32], delays: &[u32], rows: &[i32], supplier: usize) -> usize
+pub fn first_wrong_in_part(
+    tasks: &[i32],
+    marks: &[u8],
+    ticks: &[usize],
+    rows: &[i32],
+    supplier: usize,
+) -> usize
     ensures { λ r. ⌜ ((T : Tables) → T .tasks ≡ now (tasks .entry) → let S = now (rows .entry) in
-        r ≡ first (λ i. rowWrongBy T (now (delays .entry)) S i || not (eqb (rowSupplier S i) supplier)) (scheduleCount S)) ⌝ }
+        let delays = delaysOf (now (marks .entry)) (now (ticks .entry)) in
+        r ≡ first (λ i. rowWrongBy T delays S i || not (eqb (rowSupplier S i) supplier)) (scheduleCount S)) ⌝ }
 {
     let n = rows.len() / schedule::WIDTH;
     let mut i = 0;
     while i < n {
-        if refused_in_part(tasks, delays, rows, supplier, i) {
+        if refused_in_part(tasks, marks, ticks, rows, supplier, i) {
             return i;
         }
         i += 1;
@@ -115,14 +132,15 @@ fn past_part(rows: &[i32], i: usize) -> bool
 }
 
 // The lowest row of the joined schedule that breaks number 13 or is past its supplier's last; the number of rows where none is.
-pub fn first_wrong_joined(tasks: &[i32], delays: &[u32], rows: &[i32]) -> usize
+pub fn first_wrong_joined(tasks: &[i32], marks: &[u8], ticks: &[usize], rows: &[i32]) -> usize
     ensures { λ r. ⌜ ((T : Tables) → T .tasks ≡ now (tasks .entry) → let S = now (rows .entry) in
-        r ≡ first (λ i. rowWrongBy T (now (delays .entry)) S i || pastPart S i) (scheduleCount S)) ⌝ }
+        let delays = delaysOf (now (marks .entry)) (now (ticks .entry)) in
+        r ≡ first (λ i. rowWrongBy T delays S i || pastPart S i) (scheduleCount S)) ⌝ }
 {
     let n = rows.len() / schedule::WIDTH;
     let mut i = 0;
     while i < n {
-        if row_wrong(tasks, delays, rows, i) | past_part(rows, i) {
+        if row_wrong(tasks, marks, ticks, rows, i) | past_part(rows, i) {
             return i;
         }
         i += 1;

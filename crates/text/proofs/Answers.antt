@@ -1,16 +1,19 @@
--- The line of an answer: its pieces, with a place and without, and that it has some byte and any line has room for it.
+-- The line of an answer: its pieces, with a place and without, and that it has some byte and any line has room for it; and what is said
+-- of a listing that is larger than is held.
 use Prim.Native.Nat.{ℕ, _+_, _≤_, _<_}
-use mathlib.Core.Path.{_≡_, sym, ap, _∙_}
+use mathlib.Core.Path.{_≡_, refl, sym, ap, _∙_}
 use mathlib.Core.Bool.{Bool, true, false, cond}
 use mathlib.Core.List.{List, [], _∷_, _++_, append-assoc, append-nil}
 use native.Mathlib.Omega.{arith}
 use lib.ListN.{length, length-append}
+use Rattle.theory.specs.Rows.{placeless}
 use Rattle.theory.specs.declared.Answer.{Answer}
 use Rattle.theory.proofs.Conditions.{cond-all}
+use Rattle.cells.specs.Refusals.{codeRefused}
 use Rattle.text.specs.Decimal.{newline, decimal}
 use Rattle.text.specs.Line.{room, mostArgument}
 use Rattle.text.specs.Listing.{spaced}
-use Rattle.text.specs.Shipped.{hasPlace, answerLine}
+use Rattle.text.specs.Shipped.{hasPlace, answerLine, largerListing}
 use Rattle.text.proofs.Decimals.{decimal-few}
 use Rattle.text.proofs.Said.{spaced-two, arguments-few}
 
@@ -53,3 +56,18 @@ module _ (x : Answer) where
       cond-all (λ (l : List ℕ). length l ≤ mostArgument + mostArgument) (hasPlace (x .number)) _ _
       (λ e. arguments-few (x .outer) (x .inner)) (λ e. omega arith) in
       omega (arith, line-length, decimal-few (x .number), p)
+
+-- the line of a number without a place is the same whatever place stands beside it
+pub line-placeless : (x : Answer) → hasPlace (x .number) ≡ false → answerLine x ≡ answerLine (placeless (x .number))
+line-placeless x e = sym (line-alone x e) ∙ line-alone (placeless (x .number)) e
+
+-- the line of a listing that is larger than is held, in numbers: `listing larger than 4096 instructions`
+pub larger-bytes : largerListing
+    ≡ 108 ∷ 105 ∷ 115 ∷ 116 ∷ 105 ∷ 110 ∷ 103 ∷ 32 ∷ 108 ∷ 97 ∷ 114 ∷ 103 ∷ 101 ∷ 114 ∷ 32 ∷ 116 ∷ 104 ∷ 97 ∷ 110 ∷ 32 ∷ 52 ∷ 48 ∷ 57 ∷ 54
+    ∷ 32 ∷ 105 ∷ 110 ∷ 115 ∷ 116 ∷ 114 ∷ 117 ∷ 99 ∷ 116 ∷ 105 ∷ 111 ∷ 110 ∷ 115 ∷ 10 ∷ []
+larger-bytes = refl
+
+-- both lines for such a listing have 41 bytes
+pub larger-length : length (answerLine (placeless codeRefused) ++ largerListing) ≡ 41
+unfolding answerLine
+larger-length = refl

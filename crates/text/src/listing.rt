@@ -1,14 +1,17 @@
-// The printed listing: the line of an instruction, and the line of an answer.
+// The printed listing: the line of an instruction, the line of an answer, and what is said of a listing that is larger than is held.
 ghost use Prim.Native.Nat.{_+_, _≤_};
 ghost use mathlib.Core.Path.{_≡_};
 ghost use mathlib.Core.List.{[], _∷_, _++_};
 ghost use lib.ListN.{length};
+ghost use Rattle.theory.specs.Rows.{placeless};
+ghost use Rattle.cells.specs.Refusals.{codeRefused};
 ghost use Rattle.code.specs.Op.{decode};
 ghost use Rattle.text.specs.Listing.{spaced, lineOf};
 ghost use Rattle.text.specs.Line.{room, Holds, Appended};
 ghost use Rattle.text.specs.Said.{mostMnemonic, mostSaid, saidOf, saidWhere};
-ghost use Rattle.text.specs.Shipped.{badInput, hasPlace, answerLine};
+ghost use Rattle.text.specs.Shipped.{badInput, largerListing, hasPlace, answerLine};
 use crate::line::Line;
+use cells::limits::Program;
 use cells::refusals;
 use code::numbers;
 use theory::Answer;
@@ -93,4 +96,13 @@ pub fn bad_line() -> Line
     ensures { λ r. ⌜ Holds r badInput ⌝ }
 {
     Line::new().word(b"bad input\n")
+}
+
+// The lines for a listing that is larger than is held: the number 11, and `listing larger than 4096 instructions`.
+pub fn larger_lines() -> Line
+    ensures { λ r. ⌜ Holds r (answerLine (placeless codeRefused) ++ largerListing) ⌝ }
+{
+    let number = Line::new().number(refusals::CODE);
+    let most = number.word(b"\nlisting larger than ").number(Program::HELD);
+    most.word(b" instructions\n")
 }

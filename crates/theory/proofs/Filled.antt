@@ -8,15 +8,10 @@ use native.Mathlib.Numerals.{add-one}
 use native.Mathlib.Omega.{arith}
 use lib.ListN.{length, getD, set, replicate, length-set}
 use lib.Seq.{getD-set-same, getD-set-other, ext-getD}
-use Rattle.theory.specs.Lists.{each}
+use Rattle.theory.specs.Lists.{each, filled}
 use Rattle.theory.proofs.Lists.{each-length, each-at}
 
 module _ {A : Type 0} where
-  -- the first n places of a list, set to what f says
-  abbrev pub filled : (ℕ → A) → ℕ → List A → List A
-  filled f zero l = l
-  filled f (suc n) l = set (filled f n l) n (f n)
-
   module _ (f : ℕ → A) (l : List A) where
     -- a list with n places set, and place n set to what f says, has n + 1 places set
     pub filled-more : (n : ℕ) (now : List A) (x : A) → now ≡ filled f n l → x ≡ f n → set now n x ≡ filled f (n + 1) l

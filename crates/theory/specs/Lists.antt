@@ -37,6 +37,11 @@ module _ {A : Type 0} where
   some p [] = false
   some p (x ∷ xs) = p x || some p xs
 
+  -- the first n places of a list, set to what f says
+  abbrev pub filled : (ℕ → A) → ℕ → List A → List A
+  filled f zero l = l
+  filled f (suc n) l = set (filled f n l) n (f n)
+
   -- the pieces that f gives for the numbers below n, one after the other
   abbrev pub cat : (ℕ → List A) → ℕ → List A
   cat f zero = []

@@ -7,8 +7,8 @@ use native.Mathlib.Numerals.{add-one}
 use native.Mathlib.Omega.{arith}
 use lib.IntN.{ℤ}
 use lib.ListN.{length, getD, set}
-use Rattle.theory.specs.Lists.{each}
-use Rattle.theory.proofs.Filled.{filled, filled-more, filled-beyond, filled-all}
+use Rattle.theory.specs.Lists.{each, filled}
+use Rattle.theory.proofs.Filled.{filled-more, filled-beyond, filled-all}
 use Rattle.cells.specs.Cell.{nameOf}
 use Rattle.cells.specs.Limits.{suppliers}
 use Rattle.cells.specs.declared.kinds.Task.{Task}

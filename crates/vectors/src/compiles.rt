@@ -12,7 +12,7 @@ use cells::table;
 use code::Compiled;
 
 // How many words can be lent to a compilation at most; no listing needs as many.
-const LENT: usize = 20480;
+const LENT: usize = room::CODE;
 
 // Compiles a program that was read, into the words lent.
 fn compiled(l: Lengths, room: &[i32], code: &mut [u32]) -> Compiled {

@@ -12,14 +12,13 @@ use layout::addresses;
 use layout::counts;
 use theory::Answer;
 
-// Number 11 applies: the E code exceeds the limit. The code is counted, not written.
-fn code_long(tables: &[&[i32]; Program::TABLES]) -> bool
+// Number 11 applies: the E code exceeds the limit. The code is counted, not written, and where its modes stand is not kept.
+pub fn code_long(tables: &[&[i32]; Program::TABLES]) -> bool
     requires { ⌜ InShape (now tables) ⌝ }
     ensures { λ r. ⌜ ((start : ℤ) → r ≡ codeLong (tablesIn (now (tables .entry)) start)) ⌝ }
 {
     let sensors = counts::sensors(tables[tables::PORTS]);
-    let laid = addresses::lay_out(tables, sensors);
-    Program::CODE < laid.length
+    Program::CODE < addresses::lay_out(tables, sensors, &mut [], &mut [])
 }
 
 // The first of numbers 2 to 11 that applies to tables that have their shape, with its place.

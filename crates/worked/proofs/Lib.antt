@@ -1,6 +1,7 @@
 -- Document 01's worked table; systems that run; and programs that meet the premises of the theorems.
 pub mod Table
 pub mod Numbers
+pub mod Held
 pub mod Crowded
 pub mod Blocks
 pub mod Runs

@@ -9,7 +9,7 @@ use Rattle.theory.specs.Verdict.{acceptedNumber, Rule}
 use Rattle.theory.specs.declared.Answer.{Answer}
 use Rattle.cells.specs.Limits.{maxPorts, maxTasks, maxTaskPorts, maxDrivers, maxCopies, maxModes, maxModePorts, maxInvocations}
 use Rattle.cells.specs.Limits.{maxUpdates, maxSwitches, maxWindows, maxPart, maxSchedule, maxUnits, maxCode, maxDelay, maxElapsed}
-use Rattle.cells.specs.Limits.{maxRemaining, maxLeft}
+use Rattle.cells.specs.Limits.{maxRemaining, maxLeft, maxHeld}
 use Rattle.cells.specs.Refusals.{shapeRefused, fieldsRefused, taskPortsRefused, copiesRefused, modePortsRefused, invocationsRefused}
 use Rattle.cells.specs.Refusals.{updatesRefused, switchesRefused, unitsRefused, wholeRefused, codeRefused, windowsRefused, scheduleRefused}
 use Rattle.cells.specs.Refusals.{outsideRefused, lateRefused, timeRefused, overrunRefused, collisionRefused, faultyRefused}
@@ -35,11 +35,14 @@ numbersOf (g ∷ gs) = g .number ∷ numbersOf gs
 most-rows :
     maxPorts ∷ maxTasks ∷ maxTaskPorts ∷ maxDrivers ∷ maxCopies ∷ maxModes ∷ maxModePorts ∷ maxInvocations ∷ maxUpdates ∷ maxSwitches
     ∷ maxWindows ∷ maxPart ∷ maxSchedule ∷ []
-    ≡ 64 ∷ 32 ∷ 128 ∷ 64 ∷ 256 ∷ 8 ∷ 256 ∷ 64 ∷ 64 ∷ 64 ∷ 256 ∷ 256 ∷ 2048 ∷ []
+    ≡ 64 ∷ 32 ∷ 128 ∷ 64 ∷ 256 ∷ 32 ∷ 256 ∷ 64 ∷ 64 ∷ 64 ∷ 256 ∷ 256 ∷ 2048 ∷ []
 most-rows = refl
 
--- 9: 64 units; 11 and code lent to run: 4,096 instructions; 19: delays to 4,096; 21: elapsed, remaining, a task's remaining time
-most-else : maxUnits ∷ maxCode ∷ maxDelay ∷ maxElapsed ∷ maxRemaining ∷ maxLeft ∷ [] ≡ 64 ∷ 4096 ∷ 4096 ∷ 4096 ∷ 4096 ∷ 4096 ∷ []
+-- 9: 256 units; 11 and code lent to run: 16,384 instructions; 19: delays to 4,096; 21: elapsed, remaining, a task's remaining time;
+-- what the shipped program holds
+most-else :
+    maxUnits ∷ maxCode ∷ maxDelay ∷ maxElapsed ∷ maxRemaining ∷ maxLeft ∷ maxHeld ∷ []
+    ≡ 256 ∷ 16384 ∷ 4096 ∷ 4096 ∷ 4096 ∷ 4096 ∷ 4096 ∷ []
 most-else = refl
 
 -- accepted, then the refusal numbers in the order of 01's table

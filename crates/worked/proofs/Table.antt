@@ -56,10 +56,27 @@ bare-length : (programVerdict bare ≡ 0) × (length (listingOf bare) ≡ 3)
 unfolding computed
 bare-length = (refl, refl)
 
--- frequencies 3 and 64: 9; frequency 2, period 9: 9
-frequencies-3-and-64 : programAnswer (updated 192 (3 ∷ 64 ∷ [])) ≡ atRow 9 5 0
+-- frequencies 3 and 64: 192 units, which pass where the period allows; frequencies 7, 8 and 9: 9; frequency 2, period 9: 9
+frequencies-3-and-64 : (units (updated 384 (3 ∷ 64 ∷ [])) 0 ≡ 192) × (programVerdict (updated 384 (3 ∷ 64 ∷ [])) ≡ 0)
 unfolding computed
-frequencies-3-and-64 = refl
+frequencies-3-and-64 = (refl, refl)
+
+frequencies-3-and-64-period-200 : programAnswer (updated 200 (3 ∷ 64 ∷ [])) ≡ atRow 9 5 0
+unfolding computed
+frequencies-3-and-64-period-200 = refl
+
+frequencies-7-8-and-9 : programAnswer (updated 504 (7 ∷ 8 ∷ 9 ∷ [])) ≡ atRow 9 5 0
+unfolding computed
+frequencies-7-8-and-9 = refl
+
+-- the most units that frequencies within their limit have: 255 pass, and the next, 258, exceed the limit
+most-units : (units (updated 255 (15 ∷ 17 ∷ [])) 0 ≡ 255) × (programVerdict (updated 255 (15 ∷ 17 ∷ [])) ≡ 0)
+unfolding computed
+most-units = (refl, refl)
+
+frequencies-6-and-43 : programAnswer (updated 258 (6 ∷ 43 ∷ [])) ≡ atRow 9 5 0
+unfolding computed
+frequencies-6-and-43 = refl
 
 frequency-2-period-9 : programAnswer (updated 9 (2 ∷ [])) ≡ atRow 9 5 0
 unfolding computed

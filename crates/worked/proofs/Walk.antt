@@ -9,11 +9,12 @@ use lib.ListN.{length}
 use Rattle.program.specs.Tables.{modeCount}
 use Rattle.program.specs.Program.{programOf}
 use Rattle.layout.specs.Layout.{startIn}
+use Rattle.layout.specs.Delays.{countedDelays}
 use Rattle.runs.specs.Schedule.{scheduleCount, reaches, reach, Sorted, Behind, found, spanOf, rowsOf, blockOf}
 use Rattle.runs.specs.Round.{worstBreak, nothing}
 use Rattle.runs.proofs.Blocks.{behind-none, behind-later, found-behind, block-found}
 use Rattle.suppliers.specs.Schedule.{partTests, partBad, joinedTests}
-use Rattle.suppliers.specs.Delays.{countedDelays, partTestsIn, joinedTestsIn}
+use Rattle.suppliers.specs.Delays.{partTestsIn, joinedTestsIn}
 use Rattle.suppliers.specs.Supplier.{answerFrom, judged}
 use Rattle.suppliers.proofs.Schedule.{part-bars}
 use Rattle.suppliers.proofs.Delays.{part-counted, joined-counted}

@@ -78,3 +78,8 @@ window from to = numbers (0 ∷ 0 ∷ from ∷ to ∷ [])
 -- what is asked about F's supplier, with this worst-case time of t1, and 2 of t2
 abbrev pub asked : ℕ → List ℤ → List ℤ → Asked
 asked worst1 windows part = record { tables = programF worst1 2; windows = windows; part = part; supplier = pos 0 }
+
+-- a program of n sensors, and one mode of 255 units of a tick each with updates of these frequencies besides 15 and 17
+abbrev pub sensing : ℕ → List ℕ → Tables
+sensing n frequencies =
+    tables (ports n sensor) [] [] alwaysRow [] (numbers (255 ∷ [])) [] [] (updateRows (15 ∷ 17 ∷ frequencies)) [] (pos 0)

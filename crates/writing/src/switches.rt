@@ -84,7 +84,7 @@ fn stub_row(
     if due::row_due(switches, switch::WIDTH, when.mode, when.units, when.unit, i) {
         let driver = table::driver(switches, switch::WIDTH, i, switch::DRIVER);
         let target = table::mode(switches, switch::WIDTH, i, switch::TARGET);
-        return stub(code, at, driver, modes::address(entries, target));
+        return stub(code, at, driver, modes::number(entries, target));
     }
     at
 }

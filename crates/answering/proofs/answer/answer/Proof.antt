@@ -31,10 +31,10 @@ into-blank r a code e f = let g = f ∙ ap (answerShown r) e in (g, ap textOfAns
 returns : tie.Need-returns
 unfolding heard answerShown
 returns c =
-    let s = c .before .before .before .before .before .before .before .before in
-    let k = c .before .before .before .compiled .ensures in
+    let q = c .before .before .before .before in
+    let s = q .before .before .before in
     into-blank (heard (fed (s .args .i) (s .args .room .now))) _ (s .args .code .now) (s .pre)
-    (simp (← c .before .before .before .before .before .before .complete .ensures, c .before .before .before .before .before .if1 .taken, k .0, k .1) refl)
+    (simp (← q .before .complete .ensures, q .if1 .taken) (c .before .before .compiled .ensures))
 
 refused-requires : tie.Need-refused-requires
 refused-requires c κs = search needs

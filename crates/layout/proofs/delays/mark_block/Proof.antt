@@ -9,11 +9,11 @@ use Rattle.layout.proofs.delays.mark_block.Tie as tie
 before-future-requires : tie.Need-before-future-requires
 before-future-requires c κs = search needs
 
-add-put : tie.Need-add-put
-add-put c = search needs
+add-mark : tie.Need-add-mark
+add-mark c = search needs
 
-put-requires : tie.Need-put-requires
-put-requires c κs = search needs
+mark-requires : tie.Need-mark-requires
+mark-requires c κs = search needs
 
 block-size-requires : tie.Need-block-size-requires
 block-size-requires c κs = search needs
@@ -27,7 +27,7 @@ same-length c = search needs
 returns : tie.Need-returns
 returns c =
     let s = c .before .before .before .before .before .before .before in (
-      c .before .before .before .put .ensures ∙ ap (λ (n : ℕ). set (s .args .delays .now) (s .args .at + n) (s .args .ticks)) (c .before .before .before .before .before-future .ensures),
+      c .before .before .before .mark .ensures ∙ ap (λ (n : ℕ). set (s .args .marks .now) (s .args .at + n) (s .args .m .0)) (c .before .before .before .before .before-future .ensures),
       ap (λ (n : ℕ). s .args .at + n) (c .block-size .ensures),
     )
 
@@ -36,8 +36,8 @@ mark-block-spec =
     tie.close
     (tie.spec
     before-future-requires
-    add-put
-    put-requires
+    add-mark
+    mark-requires
     block-size-requires
     add-result
     same-length

@@ -14,12 +14,12 @@ use Rattle.layout.proofs.delays.mark_units.Statement.{statement}
 use Rattle.layout.proofs.delays.mark_units.Tie as tie
 
 abbrev Inv-loop : tie.InvT-loop
-Inv-loop invocations updates switches sensors m u ticks at delays₀ next₀ k₀ delays next k =
+Inv-loop invocations updates switches sensors m u at marks₀ next₀ k₀ marks next k =
     Walking (λ k. sizeOf (countsIn invocations updates switches sensors (m .0) u k))
-    (λ k at table. set table (at + beforeFuture (countsIn invocations updates switches sensors (m .0) u k)) ticks) at u delays₀ k next delays
+    (λ k at table. set table (at + beforeFuture (countsIn invocations updates switches sensors (m .0) u k)) (m .0)) at u marks₀ k next marks
 
 abbrev μ-loop : tie.MeasureT-loop
-μ-loop invocations updates switches sensors m u ticks at delays₀ next₀ k₀ delays next k = u - k
+μ-loop invocations updates switches sensors m u at marks₀ next₀ k₀ marks next k = u - k
 
 loop-holds : tie.Need-loop-holds Inv-loop μ-loop
 loop-holds c = walked-none _ _ _ _ _
@@ -32,10 +32,7 @@ mark-block-requires c κs =
     let s = c .before .before .before .before .before in
     let l = c .before .before .before .loop in (
       subst Sized (sym (c .before .count .ensures)) (counts-sized _ _ _ _ _ _ (s .pre .0) (s .pre .1 .0) (l .k)),
-      (
-        s .pre .1 .1 .1 .0,
-        walked-near _ _ _ (l .inv) mostCode mostMode (mode-most _ _ _ _ _ _ (s .pre .0) (s .pre .1 .0) (l .k) (le-trans (l .inv .in-range) (s .pre .1 .1 .0))) (s .pre .1 .1 .1 .1),
-      ),
+      walked-near _ _ _ (l .inv) mostCode mostMode (mode-most _ _ _ _ _ _ (s .pre .0) (s .pre .1 .0) (l .k) (le-trans (l .inv .in-range) (s .pre .1 .1 .0))) (s .pre .1 .1 .1),
     )
 
 add-k : tie.Need-add-k Inv-loop μ-loop
@@ -52,7 +49,7 @@ loop-again c =
     let l = c .before .before .before .before .before .before .loop in
     walked-more _ _ _ _ _ _ _ _ _ _ (c .before .before .before .before .before .loop-test .taken)
     (b .ensures .1 ∙ ap (λ (d : Counts). l .next + sizeOf d) (n .ensures))
-    (b .ensures .0 ∙ ap (λ (d : Counts). set (l .delays) (l .next + beforeFuture d) (s .args .ticks)) (n .ensures)) (l .inv)
+    (b .ensures .0 ∙ ap (λ (d : Counts). set (l .marks) (l .next + beforeFuture d) (s .args .m .0)) (n .ensures)) (l .inv)
 
 same-length : tie.Need-same-length Inv-loop μ-loop
 same-length c = walked-length _ _ _ (c .before .loop .inv) (λ k at t. length-set t _ _)

@@ -5,6 +5,7 @@ use mathlib.Core.Bool.{not, _||_}
 use lib.Dec.{eqb}
 use Rattle.theory.proofs.Search.{Passed, passed-none, passed-more, first-found, first-none}
 use Rattle.program.specs.Tables.{Tables}
+use Rattle.layout.specs.Delays.{delaysOf}
 use Rattle.runs.specs.Schedule.{scheduleCount, rowSupplier}
 use Rattle.suppliers.specs.Delays.{rowWrongBy}
 use borrow.Author.Needs.{needs}
@@ -12,11 +13,11 @@ use Rattle.suppliers.proofs.schedule_rows.first_wrong_in_part.Statement
 use Rattle.suppliers.proofs.schedule_rows.first_wrong_in_part.Tie as tie
 
 abbrev Inv-loop : tie.InvT-loop
-Inv-loop tasks delays rows supplier n i₀ i =
-    (T : Tables) → T .tasks ≡ tasks → Passed (λ k. rowWrongBy T delays rows k || not (eqb (rowSupplier rows k) supplier)) (scheduleCount rows) i
+Inv-loop tasks marks ticks rows supplier n i₀ i =
+    (T : Tables) → T .tasks ≡ tasks → Passed (λ k. rowWrongBy T (delaysOf marks ticks) rows k || not (eqb (rowSupplier rows k) supplier)) (scheduleCount rows) i
 
 abbrev μ-loop : tie.MeasureT-loop
-μ-loop tasks delays rows supplier n i₀ i = scheduleCount rows - i
+μ-loop tasks marks ticks rows supplier n i₀ i = scheduleCount rows - i
 
 loop-holds : tie.Need-loop-holds Inv-loop μ-loop
 loop-holds c T e = passed-none _ _

@@ -4,6 +4,7 @@ use mathlib.Core.Path.{_≡_, sym, ap₂, _∙_}
 use mathlib.Core.Bool.{Bool, _||_}
 use Rattle.theory.proofs.Search.{Passed, passed-none, passed-more, first-found, first-none}
 use Rattle.program.specs.Tables.{Tables}
+use Rattle.layout.specs.Delays.{delaysOf}
 use Rattle.runs.specs.Schedule.{scheduleCount}
 use Rattle.suppliers.specs.Schedule.{pastPart}
 use Rattle.suppliers.specs.Delays.{rowWrongBy}
@@ -12,11 +13,11 @@ use Rattle.suppliers.proofs.schedule_rows.first_wrong_joined.Statement.
 use Rattle.suppliers.proofs.schedule_rows.first_wrong_joined.Tie as tie
 
 abbrev Inv-loop : tie.InvT-loop
-Inv-loop tasks delays rows n i₀ i =
-    (T : Tables) → T .tasks ≡ tasks → Passed (λ k. rowWrongBy T delays rows k || pastPart rows k) (scheduleCount rows) i
+Inv-loop tasks marks ticks rows n i₀ i =
+    (T : Tables) → T .tasks ≡ tasks → Passed (λ k. rowWrongBy T (delaysOf marks ticks) rows k || pastPart rows k) (scheduleCount rows) i
 
 abbrev μ-loop : tie.MeasureT-loop
-μ-loop tasks delays rows n i₀ i = scheduleCount rows - i
+μ-loop tasks marks ticks rows n i₀ i = scheduleCount rows - i
 
 loop-holds : tie.Need-loop-holds Inv-loop μ-loop
 loop-holds c T e = passed-none _ _

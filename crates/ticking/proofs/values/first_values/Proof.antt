@@ -8,7 +8,8 @@ use lib.ListN.{length, replicate}
 use borrow.Author.Needs.{needs}
 use mir.Syntax.{w32}
 use mir.Val.{toZ, ofZ}
-use Rattle.theory.proofs.Filled.{filled, filled-more, filled-all}
+use Rattle.theory.specs.Lists.{filled}
+use Rattle.theory.proofs.Filled.{filled-more, filled-all}
 use Rattle.cells.specs.Limits.{maxPorts}
 use Rattle.cells.proofs.Ints.{back}
 use Rattle.program.specs.Tables.{Tables, portFirst}

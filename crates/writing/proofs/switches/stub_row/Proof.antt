@@ -25,13 +25,13 @@ driver-requires c κs = search needs
 mode-requires : tie.Need-mode-requires
 mode-requires c κs = search needs
 
-address-requires : tie.Need-address-requires
-address-requires c κs = search needs
+number-requires : tie.Need-number-requires
+number-requires c κs = search needs
 
 stub-requires : tie.Need-stub-requires
 stub-requires c κs =
     let s = c .before .before .before .before .before .before .before .before in
-    (s .pre .0, subst (λ (n : ℕ). n ≤ greatestWord) (sym (c .address .ensures)) (s .pre .1 _))
+    (s .pre .0, subst (λ (n : ℕ). n ≤ greatestWord) (sym (c .number .ensures)) (s .pre .1 _))
 
 same-length : tie.Need-same-length
 same-length c = search needs
@@ -45,7 +45,7 @@ returns c =
     let driver : c .before .before .before .before .before .before .driver .result .0 ≡ row (a .i) .driver = c .before .before .before .before .before .before .driver .ensures in
     let target : c .before .before .before .before .before .mode .result .0 ≡ row (a .i) .target = c .before .before .before .before .before .mode .ensures in
     c .before .before .stub .ensures
-    ∙ ap₂ (λ (d to : ℕ). writes (map three (callDriver d ∷ jump to ∷ [])) w) driver (c .before .before .before .address .ensures ∙ ap (λ (m : ℕ). getD (a .entries .now) m 0) target)
+    ∙ ap₂ (λ (d to : ℕ). writes (map three (callDriver d ∷ jump to ∷ [])) w) driver (c .before .before .before .number .ensures ∙ ap (λ (m : ℕ). getD (a .entries .now) m 0) target)
     ∙ ap (λ (ws : List Switch). writes (map three (stubsIn (a .entries .now) ws)) w)
     (sym (one-yes due row (a .i) (sym (c .before .before .before .before .before .before .before .before .row-due .ensures) ∙ c .before .before .before .before .before .before .before .if1 .taken)))
 
@@ -63,7 +63,7 @@ stub-row-spec =
     row-due-requires
     driver-requires
     mode-requires
-    address-requires
+    number-requires
     stub-requires
     same-length
     returns
