@@ -21,8 +21,8 @@ use Rattle.suppliers.specs.Schedule.{dispatchFits, idleFits, precedes, rowWrong
 use Rattle.suppliers.specs.Supplier.{partShapeBad, partVerdict, partAnswer, supplierVerdict}
 use Rattle.suppliers.specs.Windows.{windowWrong, windowsBad, windowsShapeBad, windowsVerdict, windowsAnswer}
 use Rattle.machine.specs.Advance.{freshAnswer, advanceShapeBad, stateOut, advanceVerdict, advanceAnswer}
-use Rattle.text.specs.Shipped.{answerLine, shipped}
+use Rattle.text.specs.Shipped.{answerLine, isLarger, shipped}
 
 unfoldable pub computed : Unit {0}
-unfolding any firstFrom first nameOf numAt nameAt wordAt inside isMissing isValue isKind isTaskPort modePortAt isInput isOutput isModePort copiesFrom copiesTo isSource isDestination misses rowMisses isMultiple units samePort taskPortClash taskPortsBad copyClash copiesBad modePortClash modePortsBad inRange portBad taskBad taskPortBad alwaysFits intervalFits driverBad copyBad modeBad modePortBad invocationBad updateBad switchBad startBad fieldsBad ownPort outputWith inputWith portWith sourceWith destinationWith someOutput someInput somePort someSource someDestination unreadable invocationClash invocationWrong invocationsBad updateClash updateWrong updatesBad switchClash switchWrong switchesBad badSlice badLength shapeBad unitsWrong unitsBad notWhole wholeWrong wholeBad programVerdict programAnswer listingOf codeLong sliceShort compileVerdict listing windowHas inWindow shareTick dispatchFits idleFits precedes rowWrong partBad rowCount pastPart joinedBad partShapeBad partVerdict partAnswer supplierVerdict windowWrong windowsBad windowsShapeBad windowsVerdict windowsAnswer freshAnswer advanceShapeBad stateOut advanceVerdict advanceAnswer answerLine shipped
+unfolding any firstFrom first nameOf numAt nameAt wordAt inside isMissing isValue isKind isTaskPort modePortAt isInput isOutput isModePort copiesFrom copiesTo isSource isDestination misses rowMisses isMultiple units samePort taskPortClash taskPortsBad copyClash copiesBad modePortClash modePortsBad inRange portBad taskBad taskPortBad alwaysFits intervalFits driverBad copyBad modeBad modePortBad invocationBad updateBad switchBad startBad fieldsBad ownPort outputWith inputWith portWith sourceWith destinationWith someOutput someInput somePort someSource someDestination unreadable invocationClash invocationWrong invocationsBad updateClash updateWrong updatesBad switchClash switchWrong switchesBad badSlice badLength shapeBad unitsWrong unitsBad notWhole wholeWrong wholeBad programVerdict programAnswer listingOf codeLong sliceShort compileVerdict listing windowHas inWindow shareTick dispatchFits idleFits precedes rowWrong partBad rowCount pastPart joinedBad partShapeBad partVerdict partAnswer supplierVerdict windowWrong windowsBad windowsShapeBad windowsVerdict windowsAnswer freshAnswer advanceShapeBad stateOut advanceVerdict advanceAnswer answerLine isLarger shipped
 computed = tt
