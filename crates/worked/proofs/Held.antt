@@ -12,26 +12,25 @@ use Rattle.rules.specs.Verdict.{programVerdict}
 use Rattle.code.specs.Listing.{lengthRule}
 use Rattle.code.specs.Compile.{listingOf, CodeFits}
 use Rattle.code.proofs.Accepted.{accepted-length}
-use Rattle.text.specs.Decimal.{newline, decimal}
 use Rattle.text.specs.Listing.{listingText}
 use Rattle.text.specs.Input.{got, programRead}
 use Rattle.text.specs.Shipped.{largerListing, answerLine, shipped}
 use Rattle.answering.proofs.ByLength.{prints-by-length}
 use Rattle.worked.specs.Computed.{computed}
-use Rattle.worked.specs.Programs.{sensing}
+use Rattle.worked.specs.Programs.{textOf, sampling}
 
 -- 4,096 instructions, all that is held, and one more; 16,384 instructions, the limit, and one more
 abbrev held : Tables
-held = sensing 13 (51 ∷ 51 ∷ 51 ∷ 51 ∷ 17 ∷ 17 ∷ [])
+held = sampling 13 (51 ∷ 51 ∷ 51 ∷ 51 ∷ 17 ∷ 17 ∷ [])
 
 abbrev larger : Tables
-larger = sensing 13 (51 ∷ 51 ∷ 51 ∷ 51 ∷ 17 ∷ 17 ∷ 1 ∷ [])
+larger = sampling 13 (51 ∷ 51 ∷ 51 ∷ 51 ∷ 17 ∷ 17 ∷ 1 ∷ [])
 
 abbrev longest : Tables
-longest = sensing 62 (15 ∷ 15 ∷ 1 ∷ [])
+longest = sampling 62 (15 ∷ 15 ∷ 1 ∷ [])
 
 abbrev long : Tables
-long = sensing 62 (15 ∷ 15 ∷ 1 ∷ 1 ∷ [])
+long = sampling 62 (15 ∷ 15 ∷ 1 ∷ 1 ∷ [])
 
 -- a program that 1 to 10 pass, of so many instructions by the length rule
 abbrev Accepted : Tables → ℕ → Type 0
@@ -61,11 +60,6 @@ has-length T a = accepted-length T (a .0) ∙ a .1
 limit-fits : (CodeFits longest) × (CodeFits long → ⊥)
 limit-fits = (omega (arith, has-length longest longest-accepted), λ l. omega (arith, has-length long long-accepted))
 
--- numbers as a text, one a line
-abbrev textOf : List ℕ → List ℕ
-textOf [] = []
-textOf (n ∷ ns) = decimal n ++ (newline ∷ textOf ns)
-
 -- the text of a program of sensors: the start mode, and each table behind its row count
 abbrev zeros : ℕ → List ℕ → List ℕ
 zeros zero rest = rest
@@ -75,22 +69,22 @@ abbrev updates : List ℕ → List ℕ → List ℕ
 updates [] rest = rest
 updates (f ∷ fs) rest = 0 ∷ f ∷ 0 ∷ updates fs rest
 
-abbrev textOfSensing : ℕ → List ℕ → List ℕ
-textOfSensing n frequencies =
+abbrev textOfSampling : ℕ → List ℕ → List ℕ
+textOfSampling n frequencies =
     let all : List ℕ = 15 ∷ 17 ∷ frequencies in
     textOf (0 ∷ n ∷ zeros (2 * n) (0 ∷ 0 ∷ 1 ∷ zeros 4 (0 ∷ 1 ∷ 255 ∷ 0 ∷ 0 ∷ length all ∷ updates all (0 ∷ []))))
 
 abbrev textHeld : List ℕ
-textHeld = textOfSensing 13 (51 ∷ 51 ∷ 51 ∷ 51 ∷ 17 ∷ 17 ∷ [])
+textHeld = textOfSampling 13 (51 ∷ 51 ∷ 51 ∷ 51 ∷ 17 ∷ 17 ∷ [])
 
 abbrev textLarger : List ℕ
-textLarger = textOfSensing 13 (51 ∷ 51 ∷ 51 ∷ 51 ∷ 17 ∷ 17 ∷ 1 ∷ [])
+textLarger = textOfSampling 13 (51 ∷ 51 ∷ 51 ∷ 51 ∷ 17 ∷ 17 ∷ 1 ∷ [])
 
 abbrev textLongest : List ℕ
-textLongest = textOfSensing 62 (15 ∷ 15 ∷ 1 ∷ [])
+textLongest = textOfSampling 62 (15 ∷ 15 ∷ 1 ∷ [])
 
 abbrev textLong : List ℕ
-textLong = textOfSensing 62 (15 ∷ 15 ∷ 1 ∷ 1 ∷ [])
+textLong = textOfSampling 62 (15 ∷ 15 ∷ 1 ∷ 1 ∷ [])
 
 -- the texts say these programs
 texts-read :

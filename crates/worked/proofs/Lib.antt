@@ -2,6 +2,7 @@
 pub mod Table
 pub mod Numbers
 pub mod Held
+pub mod Most
 pub mod Crowded
 pub mod Blocks
 pub mod Runs

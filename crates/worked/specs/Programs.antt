@@ -4,6 +4,7 @@ use mathlib.Core.List.{List, [], _∷_, _++_, map}
 use lib.IntN.{ℤ, pos}
 use Rattle.program.specs.Tables.{Tables, tables, sensor, actuator, input, output, kindAlways, kindInterval}
 use Rattle.suppliers.specs.Supplier.{Asked}
+use Rattle.text.specs.Decimal.{newline, decimal}
 
 -- a table of numbers that are not negative
 abbrev pub numbers : List ℕ → List ℤ
@@ -79,7 +80,12 @@ window from to = numbers (0 ∷ 0 ∷ from ∷ to ∷ [])
 abbrev pub asked : ℕ → List ℤ → List ℤ → Asked
 asked worst1 windows part = record { tables = programF worst1 2; windows = windows; part = part; supplier = pos 0 }
 
+-- numbers as a text, one a line
+abbrev pub textOf : List ℕ → List ℕ
+textOf [] = []
+textOf (n ∷ ns) = decimal n ++ (newline ∷ textOf ns)
+
 -- a program of n sensors, and one mode of 255 units of a tick each with updates of these frequencies besides 15 and 17
-abbrev pub sensing : ℕ → List ℕ → Tables
-sensing n frequencies =
+abbrev pub sampling : ℕ → List ℕ → Tables
+sampling n frequencies =
     tables (ports n sensor) [] [] alwaysRow [] (numbers (255 ∷ [])) [] [] (updateRows (15 ∷ 17 ∷ frequencies)) [] (pos 0)
