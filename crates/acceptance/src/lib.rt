@@ -41,7 +41,7 @@ fn shaped_verdict(tables: &[&[i32]; Program::TABLES], program: Program, windows:
     answers::found(refusals::WINDOWS, tables::WINDOWS, first, n)
 }
 
-// The windows verdict: the first of numbers 1 to 12 that applies, with its place, or accepted. Any slices at all may be lent.
+// The windows verdict: the first of numbers 1 to 12 and 24 that applies, with its place, or accepted. Any slices at all may be lent.
 pub fn windows_verdict(
     tables: &[&[i32]; Program::TABLES],
     program: Program,

@@ -75,3 +75,7 @@ countRefused = 20
 -- the state is out of range
 abbrev pub stateRefused : ℕ
 stateRefused = 21
+
+-- a mode's switches look at a sensor, and none of them is for its missing reading alone; tested after 10
+abbrev pub gapRefused : ℕ
+gapRefused = 24

@@ -63,3 +63,6 @@ pub const COUNT: usize = 20;
 
 // The state is out of range.
 pub const STATE: usize = 21;
+
+// A mode's switches look at a sensor, and none of them is for its missing reading alone; tested after 10.
+pub const GAP: usize = 24;

@@ -1,4 +1,4 @@
--- Compiling: the verdict 1 to 11, the length, and the lent slice afterwards; the delay of a `future` of the compiled code.
+-- Compiling: the verdict 1 to 11 or 24, the length, and the lent slice afterwards; the delay of a `future` of the compiled code.
 use Prim.Native.Nat.{ℕ, zero, suc, _*_, _≤_}
 use mathlib.Core.Bool.{Bool, _||_}
 use mathlib.Core.List.{List, [], _∷_, _++_, map}
@@ -59,7 +59,7 @@ sliceShort L = ltb (length (L .slice)) (wordsEach * length (listingOf (L .tables
 abbrev pub sliceRefusals : List (Refusal Compiling)
 sliceRefusals = unplaced codeRefused (λ L. codeLong (L .tables) || sliceShort L) ∷ []
 
--- the refusals of compiling: 1 to 10 of the tables, then 11
+-- the refusals of compiling: 1 to 10 and 24 of the tables, then 11
 abbrev pub compileRefusals : List (Refusal Compiling)
 compileRefusals = map (within (λ (L : Compiling). L .tables)) (shapeRefusal ∷ tableRefusals) ++ sliceRefusals
 

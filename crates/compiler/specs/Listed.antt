@@ -1,4 +1,4 @@
--- What compiling answers, together with the slice as it is left: for every program, and for one that numbers 1 to 10 pass.
+-- What compiling answers, together with the slice as it is left: for every program, and for one that numbers 1 to 10 and 24 pass.
 use Prim.Native.Nat.{ℕ, _*_}
 use mathlib.Core.Bool.{true, false, _||_}
 use mathlib.Core.List.{List, _++_}
@@ -40,6 +40,6 @@ accepted L =
     outcome (record { answer = placeless acceptedNumber; length = length (listingOf (L .tables)) })
     (emit (listingOf (L .tables)) ++ drop (wordsEach * length (listingOf (L .tables))) (L .slice))
 
--- the outcome of a program that numbers 1 to 10 pass: number 11, or the listing
+-- the outcome of a program that numbers 1 to 10 and 24 pass: number 11, or the listing
 abbrev pub listed : Compiling → Compilation
 listed L = elim (codeLong (L .tables) || sliceShort L) [ true ↦ refused L (placeless codeRefused) | false ↦ accepted L ]

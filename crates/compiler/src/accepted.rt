@@ -1,4 +1,4 @@
-// Compiling a program that numbers 1 to 10 pass: number 11, or its listing.
+// Compiling a program that numbers 1 to 10 and 24 pass: number 11, or its listing.
 ghost use mathlib.Core.Path.{_≡_};
 ghost use lib.IntN.{ℤ};
 ghost use Rattle.theory.specs.Verdict.{acceptedNumber};
@@ -16,7 +16,7 @@ use code::Compiled;
 use layout::addresses;
 use layout::counts;
 
-// A program that numbers 1 to 10 pass is compiled; its listing is written only where it is within the limit and the slice.
+// A program that numbers 1 to 10 and 24 pass is compiled; its listing is written only where it is within the limit and the slice.
 pub fn listed(tables: &[&[i32]; Program::TABLES], first: Mode, code: &mut [u32]) -> Compiled
     requires { ⌜ InShape (now tables) ⌝ }
     requires { ⌜ Periods (tableAt (now tables) modesAt) ⌝ }

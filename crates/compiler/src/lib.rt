@@ -1,4 +1,4 @@
-// Compiling: the answer 1 to 11 on a program, and its E code, written into a lent slice.
+// Compiling: the answer 1 to 11 or 24 on a program, and its E code, written into a lent slice.
 ghost use mathlib.Core.Path.{_≡_};
 ghost use Rattle.program.specs.Tables.{tablesIn};
 ghost use Rattle.code.specs.Compile.{compileAnswer, compileSlice};

@@ -14,3 +14,4 @@ pub mod Giotto
 pub mod Kept
 pub mod Idle
 pub mod Given
+pub mod Missing

@@ -1,21 +1,18 @@
 -- A refusal says which row: the answer of the first broken rule with its place (`FirstAt`) names row r of table t exactly where that is the
 -- row to name (`NamesRow`). Assumes of a list of rules that no number stands in it twice, and that none is 0.
-use Prim.Native.Nat.{ℕ, _≤_}
+use Prim.Native.Nat.{ℕ}
 use mathlib.Core.Path.{_≡_, refl, sym, subst, _∙_}
 use mathlib.Core.List.{List, [], _∷_}
 use mathlib.Core.Logic.{_⊎_, inl, inr, ⊎-elim, _↔_, Iff·trans}
 use native.Mathlib.Omega.{arith}
 use Rattle.theory.specs.Rows.{RowRules, atRow, Breaks, LowestRow, PlacedAt}
-use Rattle.theory.specs.Verdict.{acceptedNumber, Rule, First, FirstAt}
+use Rattle.theory.specs.Verdict.{acceptedNumber, Rule, OneOf, First, FirstAt}
 use Rattle.theory.proofs.Verdict.{Numbered, first-number}
-use Rattle.cells.specs.Refusals.{shapeRefused}
 use Rattle.rules.specs.Verdict.{programRules}
 use Rattle.code.specs.Compile.{compileRules}
 use Rattle.suppliers.specs.Windows.{windowsVerdictRules}
-use Rattle.suppliers.specs.Schedule.{lastStatic}
 use Rattle.suppliers.specs.Supplier.{Asked, partRules}
 use Rattle.machine.specs.Advance.{Advance, advanceRules}
-use Rattle.machine.specs.Comes.{Static}
 use Rattle.demands.specs.Places.{SomeRows, HasRows, RowBreaks, NamesRow, PlacesExact}
 use Rattle.demands.proofs.Verdict.{verdict-exact}
 use Rattle.demands.proofs.Calls.{compile-exact, windows-exact, fresh-exact, advance-exact}
@@ -122,47 +119,27 @@ module _ {A : Type 0} where
       back : (NamesRow gs a n t r → FirstAt gs a (atRow n t r)) → NamesRow (g ∷ gs) a n t r → FirstAt (g ∷ gs) a (atRow n t r)
       back ih v = ⊎-elim (λ b. absurd (other (b .1))) (λ f. inr (f .0, ih (rest v (f .1)))) (v .first-broken)
 
-  -- each number of a list of rules has the property N
-  abbrev Each : (ℕ → Type 0) → List (Rule A) → Type 0
-  Each N [] = Unit {0}
-  Each N (g ∷ gs) = N (g .number) × Each N gs
-
-  -- a number that has rows has the property that each number of the rules has
-  rows-each : (N : ℕ → Type 0) (gs : List (Rule A)) (a : A) (n : ℕ) → Each N gs → HasRows gs a n → N n
-  rows-each N [] a n w h = absurd h
-  rows-each N (g ∷ gs) a n w (inl h) = subst N (sym (h .0)) (w .0)
-  rows-each N (g ∷ gs) a n w (inr h) = rows-each N gs a n (w .1) h
-
--- a number that has rows in a supplier's verdict is one of 1 to 13
-part-numbers : (L : Asked) (n : ℕ) → HasRows partRules L n → (shapeRefused ≤ n) × (n ≤ lastStatic)
-part-numbers L n h = rows-each (λ m. (shapeRefused ≤ m) × (m ≤ lastStatic)) partRules L n (omega arith) h
-
--- a number that has rows in an advance is given before anything runs
-advance-numbers : (L : Advance) (n : ℕ) → HasRows advanceRules L n → Static n
-advance-numbers L n h = rows-each Static advanceRules L n each h
-  where
-    before : {m : ℕ} → (shapeRefused ≤ m) × (m ≤ lastStatic) → Static m
-    before w = inl w
-
-    each : Each Static advanceRules
-    each =
-        (before (omega arith), (before (omega arith), (before (omega arith), (before (omega arith), (before (omega arith), (before (omega arith), (before (omega arith), (before (omega arith), (before (omega arith), (before (omega arith), (before (omega arith), (before (omega arith), (inr refl, tt)))))))))))))
+  -- a number that has rows is that of one of the rules
+  rows-one : (gs : List (Rule A)) (a : A) (n : ℕ) → HasRows gs a n → OneOf gs n
+  rows-one [] a n h = h
+  rows-one (g ∷ gs) a n (inl h) = inl (h .0)
+  rows-one (g ∷ gs) a n (inr h) = inr (rows-one gs a n h)
 
 -- no number stands twice in the rules of a call
 program-once : Once programRules
-program-once = (omega arith, (omega arith, (omega arith, (omega arith, (omega arith, (omega arith, (omega arith, (omega arith, (omega arith, (omega arith, tt))))))))))
+program-once = (omega arith, (omega arith, (omega arith, (omega arith, (omega arith, (omega arith, (omega arith, (omega arith, (omega arith, (omega arith, (omega arith, tt)))))))))))
 
 compile-once : Once compileRules
-compile-once = (omega arith, (omega arith, (omega arith, (omega arith, (omega arith, (omega arith, (omega arith, (omega arith, (omega arith, (omega arith, (omega arith, tt)))))))))))
+compile-once = (omega arith, (omega arith, (omega arith, (omega arith, (omega arith, (omega arith, (omega arith, (omega arith, (omega arith, (omega arith, (omega arith, (omega arith, tt))))))))))))
 
 windows-once : Once windowsVerdictRules
-windows-once = (omega arith, (omega arith, (omega arith, (omega arith, (omega arith, (omega arith, (omega arith, (omega arith, (omega arith, (omega arith, (omega arith, (omega arith, tt))))))))))))
+windows-once = (omega arith, (omega arith, (omega arith, (omega arith, (omega arith, (omega arith, (omega arith, (omega arith, (omega arith, (omega arith, (omega arith, (omega arith, (omega arith, tt)))))))))))))
 
 part-once : Once partRules
-part-once = (omega arith, (omega arith, (omega arith, (omega arith, (omega arith, (omega arith, (omega arith, (omega arith, (omega arith, (omega arith, (omega arith, (omega arith, (omega arith, tt)))))))))))))
+part-once = (omega arith, (omega arith, (omega arith, (omega arith, (omega arith, (omega arith, (omega arith, (omega arith, (omega arith, (omega arith, (omega arith, (omega arith, (omega arith, (omega arith, tt))))))))))))))
 
 advance-once : Once advanceRules
-advance-once = (omega arith, (omega arith, (omega arith, (omega arith, (omega arith, (omega arith, (omega arith, (omega arith, (omega arith, (omega arith, (omega arith, (omega arith, (omega arith, tt)))))))))))))
+advance-once = (omega arith, (omega arith, (omega arith, (omega arith, (omega arith, (omega arith, (omega arith, (omega arith, (omega arith, (omega arith, (omega arith, (omega arith, (omega arith, (omega arith, tt))))))))))))))
 
 -- in each call the row that is named is the row to name
 pub places-exact : PlacesExact
@@ -171,9 +148,8 @@ places-exact = record {
   compiling = λ L n t r h. Iff·trans (compile-exact L (atRow n t r)) (names-row compileRules L n t r compile-once (omega arith) h);
   windows = λ L n t r h. Iff·trans (windows-exact L (atRow n t r)) (names-row windowsVerdictRules L n t r windows-once (omega arith) h);
   supplier = λ L n t r h.
-      let (low, high) = part-numbers L n h in
-      Iff·trans (supplier-exact L .refused (atRow n t r) low high) (names-row partRules L n t r part-once (omega arith) h);
+      Iff·trans (supplier-exact L .refused (atRow n t r) (rows-one partRules L n h)) (names-row partRules L n t r part-once (omega arith) h);
   fresh = λ T n t r h. Iff·trans (fresh-exact T .answer (atRow n t r)) (names-row programRules T n t r program-once (omega arith) h);
   advance = λ L n t r h.
-      Iff·trans (advance-exact L .judged (atRow n t r) (advance-numbers L n h)) (names-row advanceRules L n t r advance-once (omega arith) h);
+      Iff·trans (advance-exact L .judged (atRow n t r) (rows-one advanceRules L n h)) (names-row advanceRules L n t r advance-once (omega arith) h);
 }

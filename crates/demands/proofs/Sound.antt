@@ -26,7 +26,7 @@ use Rattle.theory.specs.declared.Answer.{Answer}
 use Rattle.suppliers.proofs.Windows.{windows-bar}
 use Rattle.suppliers.proofs.Schedule.{part-bars}
 use Rattle.suppliers.proofs.Accepted.{windows-accepted, part-after, part-some-time}
-use Rattle.suppliers.proofs.Answers.{judged-exactly}
+use Rattle.suppliers.proofs.Answers.{not-of-run, judged-exactly}
 use Rattle.suppliers.proofs.Joining.{joined-course, joined-fits, joined-whole}
 use Rattle.composed.specs.Sound.{Sound}
 use Rattle.demands.specs.Composed.{System, Accepted, joined}
@@ -44,7 +44,7 @@ windows-pass L e =
 
 -- a supplier is accepted only with its part, and where its run is good
 passes : (L : Asked) → supplierVerdict L .number ≡ acceptedNumber → (partVerdict L ≡ acceptedNumber) × (judged L ≡ supplierVerdict L)
-passes L e = judged-exactly L (supplierVerdict L) (inl e) .0 refl
+passes L e = judged-exactly L (supplierVerdict L) (λ o. omega (arith, e, not-of-run (supplierVerdict L .number) o .0)) .0 refl
 
 -- the part that passes has its shape and passes number 13
 part-fits : (L : Asked) → windowsVerdict (windowedOf L) ≡ acceptedNumber → partVerdict L ≡ acceptedNumber

@@ -11,13 +11,13 @@ use lib.IntN.{ℤ}
 use lib.ListN.{length}
 use borrow.Author.Tests.{eqb-true, eq-eqb}
 use Rattle.theory.specs.Rows.{placeless}
-use Rattle.theory.specs.Verdict.{acceptedNumber, orElse, rowsAnswer, Keep}
+use Rattle.theory.specs.Verdict.{acceptedNumber, orElse, rowsAnswer, OneOf, Keep}
 use Rattle.theory.specs.declared.Answer.{Answer}
 use Rattle.theory.proofs.Bools.{iff, is-true}
 use Rattle.theory.proofs.Members.{Has, has-those}
 use Rattle.cells.specs.Cell.{indexOf}
 use Rattle.cells.specs.Limits.{maxPart}
-use Rattle.cells.specs.Refusals.{shapeRefused, scheduleRefused}
+use Rattle.cells.specs.Refusals.{shapeRefused, scheduleRefused, outsideRefused, lateRefused}
 use Rattle.program.specs.Tables.{tables, modeCount, taskSupplier, taskWorst}
 use Rattle.program.specs.Units.{rowMisses, isMultiple, units}
 use Rattle.program.specs.Program.{programOf}
@@ -31,12 +31,11 @@ use Rattle.runs.proofs.Dominated.{Any, any-rows, unit-dominated}
 use Rattle.runs.proofs.First.{judge-exactly}
 use Rattle.runs.proofs.Exactly.{no-break-exactly}
 use Rattle.suppliers.specs.Windows.{windowsVerdict}
-use Rattle.suppliers.specs.Schedule.{lastStatic}
 use Rattle.suppliers.specs.Supplier.{Asked, supplierOf, courseOf, answerOf, answerFrom, judged, partVerdict, partAnswer, partRules, supplierVerdict}
 use Rattle.suppliers.proofs.Modes.{AllGood, BreaksFirst, answer-good, answer-break}
 use Rattle.suppliers.proofs.Accepted.{part-some-time, part-after, part-answer-after}
 use Rattle.suppliers.proofs.Judged.{judged-modes}
-use Rattle.suppliers.proofs.Answers.{judged-accepted, refused-exactly, judged-exactly, only-these}
+use Rattle.suppliers.proofs.Answers.{not-of-run, judged-accepted, refused-exactly, judged-exactly, only-these}
 use Rattle.suppliers.proofs.Tasks.{withTasks, tests-tasks, part-tasks, break-tasks}
 use Rattle.demands.specs.Supplier.{BreaksAt, SupplierExact, shorter, longer, Domination, Window, ownWindows, Independent}
 use Rattle.demands.proofs.Calls.{part-first-at, part-kept}
@@ -94,19 +93,22 @@ break-exactly L a m b d =
 -- what a supplier's verdict answers
 pub supplier-exact : (L : Asked) → SupplierExact L
 supplier-exact L = record {
-  refused = λ x l k. Iff·trans (refused-exactly L x l k) (part-first-at L x);
+  refused = λ x o. Iff·trans (refused-exactly L x o) (part-first-at L x);
   accepted = (
-    λ e. let (z, j) = judged-exactly L (answerOf 0 none) (inl refl) .0 e in (part-kept L .0 z, good-exactly L z .0 (ap (λ (a : Answer). a .number) j)),
+    λ e. let (z, j) = judged-exactly L (answerOf 0 none) accepts .0 e in (part-kept L .0 z, good-exactly L z .0 (ap (λ (a : Answer). a .number) j)),
     λ w.
         let z = part-kept L .1 (w .0) in
-        judged-exactly L (answerOf 0 none) (inl refl) .1 (z, judged-accepted L (good-exactly L z .1 (w .1))),
+        judged-exactly L (answerOf 0 none) accepts .1 (z, judged-accepted L (good-exactly L z .1 (w .1))),
   );
-  outside-at = λ m t. place m (outside t) (inr (omega arith)) (λ q. absurd (let z : _≡_ {A = ℕ} 0 1 = cc in omega arith));
-  late-at = λ m t. place m (late t) (inr (omega arith)) (λ q. absurd (let z : _≡_ {A = ℕ} 0 1 = cc in omega arith));
-  only-these = ⊎-elim (λ w. inr (inl (w .1, w .2))) (⊎-elim (λ e. inl e) (λ r. inr (inr r))) (only-these L);
+  outside-at = λ m t. place m (outside t) (λ o. not-of-run outsideRefused o .1 refl) (λ q. absurd (let z : _≡_ {A = ℕ} 0 1 = cc in omega arith));
+  late-at = λ m t. place m (late t) (λ o. not-of-run lateRefused o .2 refl) (λ q. absurd (let z : _≡_ {A = ℕ} 0 1 = cc in omega arith));
+  only-these = ⊎-elim (λ w. inr (inl (w .1))) (⊎-elim (λ e. inl e) (λ r. inr (inr r))) (only-these L);
 }
   where
-    place : (m : ℕ) (b : Break) → (answerOf m b .number ≡ acceptedNumber) ⊎ (lastStatic < answerOf m b .number) → (b ≡ none → ⊥)
+    accepts : OneOf partRules acceptedNumber → ⊥
+    accepts o = omega (arith, not-of-run acceptedNumber o .0)
+
+    place : (m : ℕ) (b : Break) → (OneOf partRules (answerOf m b .number) → ⊥) → (b ≡ none → ⊥)
         → (supplierVerdict L ≡ answerOf m b) ↔ (Keep partRules L × BreaksAt L m b)
     place m b o d = (
       λ e. let (z, j) = judged-exactly L (answerOf m b) o .0 e in (part-kept L .0 z, break-exactly L z m b d .0 j),

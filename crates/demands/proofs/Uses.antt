@@ -1,14 +1,10 @@
 -- What an advance uses of what it is lent, of the definitions.
-use Prim.Native.Nat.{ℕ, _<_}
 use mathlib.Core.Path.{_≡_, refl}
-use mathlib.Core.Logic.{inl, inr}
 use native.Mathlib.Omega.{arith}
-use Rattle.theory.specs.Verdict.{acceptedNumber}
-use Rattle.machine.specs.Advance.{advanceVerdict, advanceAnswer}
-use Rattle.machine.specs.Comes.{Static}
+use Rattle.machine.specs.Advance.{advanceAnswer}
 use Rattle.machine.proofs.Uses as uses
 use Rattle.machine.proofs.Uses.{refused-same, reads-sensor, releases-declared, meets-none}
-use Rattle.machine.proofs.Exact.{advance-judged}
+use Rattle.machine.proofs.Exact.{not-arising, advance-judged}
 use Rattle.demands.specs.Uses.{UsedOnly, SameWithin, SensorsOnly, TasksOnly, RefusedUsesNone}
 
 pub used-only : UsedOnly
@@ -42,8 +38,6 @@ tasks-only L times t same =
     })
 
 pub refused-uses-none : RefusedUsesNone
-refused-uses-none L X s l = refused-same L X l (some (advanceAnswer L .answer .number) s (advance-judged L (advanceAnswer L .answer .number) s .0 refl))
-  where
-    some : (n : ℕ) → Static n → advanceVerdict L ≡ n → acceptedNumber < advanceVerdict L
-    some n (inl w) e = omega (arith, e, w .0)
-    some n (inr w) e = omega (arith, e, w)
+refused-uses-none L X s l =
+    let n = advanceAnswer L .answer .number in
+    refused-same L X l (omega (arith, not-arising n s .0, advance-judged L n s .0 refl))

@@ -21,11 +21,11 @@ use Rattle.machine.specs.Advance.{Advance, advanceRules, advanceAnswer, freshAn
 use Rattle.machine.specs.Fresh.{Fresh, AllZero}
 use Rattle.machine.specs.Comes.{Static, Arising, TickPasses}
 
--- compiling gives each of 1 to 11, with its place, exactly where its rule is the first that is broken
+-- compiling gives each of 1 to 11 and 24, with its place, exactly where its rule is the first that is broken
 abbrev pub CompileExact : Type 0
 CompileExact = (L : Compiling) (x : Answer) → (compileAnswer L .answer ≡ x) ↔ FirstAt compileRules L x
 
--- the windows verdict gives each of 1 to 12, with its place, exactly where its rule is the first that is broken
+-- the windows verdict gives each of 1 to 12 and 24, with its place, exactly where its rule is the first that is broken
 abbrev pub WindowsExact : Type 0
 WindowsExact = (L : Windowed) (x : Answer) → (windowsAnswer L ≡ x) ↔ FirstAt windowsVerdictRules L x
 
@@ -33,7 +33,7 @@ WindowsExact = (L : Windowed) (x : Answer) → (windowsAnswer L ≡ x) ↔ First
 abbrev pub WindowsNumber : Type 0
 WindowsNumber = (L : Windowed) → windowsAnswer L .number ≡ windowsVerdict L
 
--- an advance gives 1 to 11, 13 and 21 before anything runs, with their place; then 16 to 20, each under its condition in Machine.antt
+-- an advance gives 1 to 11, 24, 13 and 21 before anything runs, with their place; then 16 to 20, each under its condition in Machine.antt
 pub record AdvanceExact (L : Advance) : Type 0 where
   pub judged : (x : Answer) → Static (x .number) → (advanceAnswer L .answer ≡ x) ↔ FirstAt advanceRules L x
   pub accepted : (advanceAnswer L .answer ≡ placeless acceptedNumber) ↔ (Keep advanceRules L × TickPasses L)
@@ -44,8 +44,8 @@ pub record AdvanceExact (L : Advance) : Type 0 where
   -- a refused advance hands the state back as it was
   pub kept : (advanceAnswer L .answer .number ≡ acceptedNumber → ⊥) → advanceAnswer L .state ≡ L .state
 
--- a fresh state has number 1 to 10 with its place; "refused, it is all 0", else it "has the ports' first values in the first two and 0
--- elsewhere"
+-- a fresh state has number 1 to 10 or 24, with its place; "refused, it is all 0", else it "has the ports' first values in the first two and
+-- 0 elsewhere"
 pub record FreshExact (T : Tables) : Type 0 where
   pub answer : (x : Answer) → (freshAnswer T .answer ≡ x) ↔ FirstAt programRules T x
   pub refused : (freshAnswer T .answer .number ≡ acceptedNumber → ⊥) → AllZero (freshAnswer T .state)

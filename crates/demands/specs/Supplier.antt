@@ -12,15 +12,14 @@ use lib.IntN.{ℤ}
 use lib.ListN.{length}
 use Rattle.theory.specs.Lists.{those, member}
 use Rattle.theory.specs.Rows.{placeless}
-use Rattle.theory.specs.Verdict.{acceptedNumber, Keep, FirstAt}
+use Rattle.theory.specs.Verdict.{acceptedNumber, OneOf, Keep, FirstAt}
 use Rattle.theory.specs.declared.Answer.{Answer}
-use Rattle.cells.specs.Refusals.{shapeRefused, outsideRefused, lateRefused}
+use Rattle.cells.specs.Refusals.{outsideRefused, lateRefused}
 use Rattle.program.specs.Tables.{Tables, modeCount, taskSupplier, taskWorst}
 use Rattle.runs.specs.Tick.{leftOf, Place, runsIn}
 use Rattle.runs.specs.Windows.{windowCount, windowSupplier, windowMode, windowFrom, windowTo}
 use Rattle.runs.specs.Round.{Course, Choice, unitStart, going, Good, WithinWorst, worstCase, Break, outside, late, FirstBreak, nothing}
 use Rattle.suppliers.specs.Windows.{windowsVerdict}
-use Rattle.suppliers.specs.Schedule.{lastStatic}
 use Rattle.suppliers.specs.Supplier.{Asked, supplierOf, courseOf, windowedOf, partRules, atTick, supplierVerdict}
 
 -- The place is that of the run with all worst-case times: the lowest mode whose run breaks, and the first break in it
@@ -31,8 +30,8 @@ pub record BreaksAt (L : Asked) (m : ℕ) (b : Break) : Type 0 where
 
 -- What a supplier's verdict answers, the place included
 pub record SupplierExact (L : Asked) : Type 0 where
-  -- the answer is a number of 1 to 13, with its place, exactly where that rule is the first that is broken
-  pub refused : (x : Answer) → shapeRefused ≤ x .number → x .number ≤ lastStatic → (supplierVerdict L ≡ x) ↔ FirstAt partRules L x
+  -- the answer is a number of its rules, 1 to 13 or 24, with its place, exactly where that rule is the first that is broken
+  pub refused : (x : Answer) → OneOf partRules (x .number) → (supplierVerdict L ≡ x) ↔ FirstAt partRules L x
   -- where program and windows are accepted and the part is well-formed, it is accepted exactly when, in every mode, reached or not, and
   -- for every choice of an execution time from 1 to the worst case for every release, every tick in which the supplier runs lies in
   -- one of its windows and every task has ended at each of its termination instants
@@ -46,7 +45,7 @@ pub record SupplierExact (L : Asked) : Type 0 where
       → (supplierVerdict L ≡ atTick lateRefused m t) ↔ (Keep partRules L × BreaksAt L m (late t))
   -- there is no other answer
   pub only-these : (supplierVerdict L ≡ placeless acceptedNumber)
-      ⊎ (((shapeRefused ≤ supplierVerdict L .number) × (supplierVerdict L .number ≤ lastStatic))
+      ⊎ (OneOf partRules (supplierVerdict L .number)
       ⊎ ((supplierVerdict L .number ≡ outsideRefused) ⊎ (supplierVerdict L .number ≡ lateRefused)))
 
 -- The worst case decides because a shorter run is dominated. Two runs of unit k of a course, of choice c from the remaining times r
@@ -101,7 +100,7 @@ ownWindows W s =
     those (λ i. eqb (windowSupplier W i) s) (λ i. record { mode = windowMode W i; from = windowFrom W i; to = windowTo W i })
     (windowCount W) 0
 
--- The verdict, place included, is the same when only other suppliers' worst-case times and windows change, both passing 1 to 12
+-- The verdict, place included, is the same when only other suppliers' worst-case times and windows change, both passing 1 to 12 and 24
 abbrev pub Independent : Type 0
 Independent =
     (L K : Asked) → L .part ≡ K .part → L .supplier ≡ K .supplier

@@ -9,6 +9,7 @@ pub mod Switching
 pub mod Active
 pub mod Succeeds
 pub mod One
+pub mod Taken
 pub mod Released
 pub mod Once
 pub mod Execution

@@ -16,16 +16,13 @@ use Rattle.program.specs.Tables.{Tables, modeCount, modePeriod, switchTarget, s
 use Rattle.program.specs.Units.{units}
 use Rattle.program.specs.Program.{programOf}
 use Rattle.program.specs.Ports.{valueOf}
-use Rattle.program.specs.Guard.{guardOf}
-use Rattle.program.proofs.Guards.{Sound, guards-meet}
 use Rattle.rules.specs.Fields.{Fields}
 use Rattle.rules.specs.Modes.{Switches}
 use Rattle.rules.specs.Verdict.{programRules}
-use Rattle.rules.proofs.Modes.{guard-sound}
+use Rattle.rules.proofs.Modes.{switch-once}
 use Rattle.giotto.specs.Instant.{Configuration, instant}
 use Rattle.giotto.specs.Successor.{Valuation, Next, Drives, SwitchEnabled, Completed, Enabled, UpdateWrites, SensorWrites}
 use Rattle.giotto.specs.Successor.{InputWrites, Stays, Changes, Successor, Same}
-use Rattle.giotto.proofs.Steps.{same-row}
 use Rattle.giotto.proofs.Succeeds.{instant-succeeds}
 
 -- the same writes on the same values leave the same values
@@ -40,16 +37,9 @@ next-one {Writes} {w} {w′} n n′ = fun-ext (λ p. go p (eqZ (w p) (w′ p)) r
         absurd (apart (n .kept p none ∙ sym (n′ .kept p none)))
 
 module _ (T : Tables) (f : Fields T) (s : Switches T) (C : Configuration) where
-  -- the guard of an enabled switch is no empty interval
-  sound : (v : Valuation) (i : ℕ) → SwitchEnabled T (C .mode) (C .unit) v i → Sound (guardOf T (switchDriver T i))
-  sound v i a = guard-sound T f (switchDriver T i) (f .switches i (a .in-table) .driver)
-
   -- two enabled switches of one configuration are one row
-  switch-row : (v : Valuation) (i j : ℕ) → SwitchEnabled T (C .mode) (C .unit) v i → SwitchEnabled T (C .mode) (C .unit) v j → i ≡ j
-  switch-row v i j a b =
-      same-row i j
-      (λ l. s .apart j i l (b .in-table) (a .of-mode ∙ sym (b .of-mode)) (guards-meet T (switchDriver T i) (switchDriver T j) v (sound v i a) (sound v j b) (a .guard) (b .guard)))
-      (λ l. s .apart i j l (a .in-table) (b .of-mode ∙ sym (a .of-mode)) (guards-meet T (switchDriver T j) (switchDriver T i) v (sound v j b) (sound v i a) (b .guard) (a .guard)))
+  pub switch-row : (v : Valuation) (i j : ℕ) → SwitchEnabled T (C .mode) (C .unit) v i → SwitchEnabled T (C .mode) (C .unit) v j → i ≡ j
+  switch-row v i j a b = switch-once T f s v i j (a .in-table) (b .in-table) (a .of-mode ∙ sym (b .of-mode)) (a .guard) (b .guard)
 
   -- steps 4 to 6 lead to one mode, one unit and the same values
   switch-one : (v w w′ : Valuation) (m m′ u u′ : ℕ) → Stays T C v w m u ⊎ Changes T C v w m u → Stays T C v w′ m′ u′ ⊎ Changes T C v w′ m′ u′

@@ -8,13 +8,12 @@ use native.Mathlib.Omega.{arith}
 use Rattle.theory.specs.Rows.{placeless}
 use Rattle.theory.specs.Verdict.{acceptedNumber, firstRefusal}
 use Rattle.theory.specs.declared.Answer.{Answer}
-use Rattle.theory.proofs.Verdict.{verdict-among}
-use Rattle.cells.specs.Refusals.{timeRefused, overrunRefused, collisionRefused, faultyRefused, countRefused, stateRefused}
-use Rattle.suppliers.specs.Schedule.{lastStatic}
+use Rattle.theory.proofs.Verdict.{one-each, verdict-one}
+use Rattle.cells.specs.Refusals.{timeRefused, overrunRefused, collisionRefused, faultyRefused, countRefused}
 use Rattle.machine.specs.declared.State.{State}
 use Rattle.machine.specs.declared.Handed.{Handed}
 use Rattle.machine.specs.Instant.{Outcome, ok, stop}
-use Rattle.machine.specs.Advance.{Advance, advanceRefusals, advanceVerdict, answer, advanceAnswer}
+use Rattle.machine.specs.Advance.{Advance, advanceRefusals, advanceVerdict, advanceRules, answer, advanceAnswer}
 use Rattle.machine.specs.Comes.{Static, Arising, Faults, TimeWrong, Overruns, RunsOn, Collides, TickPasses}
 use Rattle.machine.proofs.Outcomes.{ok-not-stop, stopped}
 use Rattle.machine.proofs.Answered.{outcome, judged-number, advance-refused, advance-steps, refused-number, step-answered}
@@ -26,15 +25,22 @@ answered : (s : State) (o : Outcome) (n : ℕ) → acceptedNumber < n → (answe
 answered s (ok u) n l = (λ e. absurd (omega (arith, e)), λ e. absurd (ok-not-stop e))
 answered s (stop m) n l = (λ e. ap stop e, λ e. stopped e)
 
+-- no number that is given before anything runs arises in execution
+pub not-arising : (n : ℕ) → Static n → (acceptedNumber < n) × (Arising n → ⊥)
+not-arising n s = (
+  one-each (λ n. acceptedNumber < n) advanceRules n (omega arith) s,
+  one-each (λ n. Arising n → ⊥) advanceRules n (omega arith) s,
+)
+
 module _ (L : Advance) where
   -- the step of an advance is refused with n
   abbrev Stops : ℕ → Type 0
   Stops n = InstantStops L n ⊎ ((n ≡ collisionRefused) × Collides L)
 
   -- the numbers of the static verdict, and those of a refused step
-  few : lastStatic < advanceVerdict L → advanceVerdict L ≡ stateRefused
+  few : acceptedNumber < advanceVerdict L → Static (advanceVerdict L)
   unfolding advanceVerdict
-  few = verdict-among (λ n. lastStatic < n → n ≡ stateRefused) (omega arith) advanceRefusals L (omega arith)
+  few l = ⊎-elim (λ e. absurd (omega (arith, e, l))) (λ o. o) (verdict-one advanceRefusals advanceRules L (omega arith))
 
   arises : (n : ℕ) → Stops n → Arising n
   arises n (inl (inl w)) = omega (arith, w .0)
@@ -43,24 +49,24 @@ module _ (L : Advance) where
   arises n (inl (inr (inr (inr w)))) = omega (arith, w .0)
   arises n (inr w) = omega (arith, w .0)
 
-  -- an advance answers 1 to 13 and 21 exactly where the static verdict gives that number
+  -- an advance answers a number of the static verdict exactly where that gives it
   pub advance-judged : (n : ℕ) → Static n → (advanceAnswer L .answer .number ≡ n) ↔ (advanceVerdict L ≡ n)
-  advance-judged n s = (λ e. there (decLt acceptedNumber (advanceVerdict L)) e s, λ e. refused-number L (⊎-elim (λ w. omega (arith, e, w .0)) (λ w. omega (arith, e, w)) s) ∙ e)
+  advance-judged n s =
+      (λ e. there (decLt acceptedNumber (advanceVerdict L)) e, λ e. refused-number L (omega (arith, e, not-arising n s .0)) ∙ e)
     where
-      there : Dec (acceptedNumber < advanceVerdict L) → advanceAnswer L .answer .number ≡ n → Static n → advanceVerdict L ≡ n
-      there (yes l) e s = sym (refused-number L l) ∙ e
-      there (no l) e s =
-          let some : acceptedNumber < n = ⊎-elim (λ w. w .0) (λ w. omega (arith, w)) s in
-          let q : outcome L ≡ stop n = answered (L .state) (outcome L) n some .0 (sym (step-answered L (omega (arith, l))) ∙ e) in
-          let a = arises n (outcome-stops L n .0 q) in
-          absurd (⊎-elim (λ w. omega (arith, a .0, w .1)) (λ w. omega (arith, a .1, w)) s)
+      there : Dec (acceptedNumber < advanceVerdict L) → advanceAnswer L .answer .number ≡ n → advanceVerdict L ≡ n
+      there (yes l) e = sym (refused-number L l) ∙ e
+      there (no l) e =
+          let q : outcome L ≡ stop n =
+          answered (L .state) (outcome L) n (not-arising n s .0) .0 (sym (step-answered L (omega (arith, l))) ∙ e) in
+          absurd (not-arising n s .1 (arises n (outcome-stops L n .0 q)))
 
   -- an advance answers 16 to 20 exactly where the static verdict gives none, and the step is refused so
   pub advance-arises : (n : ℕ) → Arising n → (advanceAnswer L .answer .number ≡ n) ↔ ((advanceVerdict L ≡ acceptedNumber) × Stops n)
   advance-arises n a = (λ e. there (decLt acceptedNumber (advanceVerdict L)) e, back)
     where
       there : Dec (acceptedNumber < advanceVerdict L) → advanceAnswer L .answer .number ≡ n → (advanceVerdict L ≡ acceptedNumber) × Stops n
-      there (yes l) e = let w = few (omega (arith, a .0, refused-number L l, e)) in absurd (omega (arith, a .1, w, refused-number L l, e))
+      there (yes l) e = absurd (not-arising (advanceVerdict L) (few l) .1 (subst Arising (sym e ∙ refused-number L l) a))
       there (no l) e =
           let z : advanceVerdict L ≡ acceptedNumber = omega (arith, l) in
           (z, outcome-stops L n .0 (answered (L .state) (outcome L) n (omega (arith, a .0)) .0 (sym (step-answered L z) ∙ e)))
@@ -84,25 +90,21 @@ module _ (L : Advance) where
   pub advance-only : (advanceAnswer L .answer .number ≡ acceptedNumber) ⊎ (Static (advanceAnswer L .answer .number) ⊎ Arising (advanceAnswer L .answer .number))
   advance-only = go (decLt acceptedNumber (advanceVerdict L))
     where
-      static : (n : ℕ) → acceptedNumber < n → (lastStatic < n → n ≡ stateRefused) → Dec (lastStatic < n) → Static n
-      static n l w (yes h) = inr (w h)
-      static n l w (no h) = inl (l, omega (arith, h))
-
       step : (o : Outcome) → outcome L ≡ o → (answer (L .state) o .number ≡ acceptedNumber) ⊎ (Static (answer (L .state) o .number) ⊎ Arising (answer (L .state) o .number))
       step (ok u) e = inl refl
       step (stop n) e = inr (inr (arises n (outcome-stops L n .0 e)))
 
       go : Dec (acceptedNumber < advanceVerdict L) → (advanceAnswer L .answer .number ≡ acceptedNumber) ⊎ (Static (advanceAnswer L .answer .number) ⊎ Arising (advanceAnswer L .answer .number))
-      go (yes l) = inr (inl (subst Static (sym (refused-number L l)) (static (advanceVerdict L) l few (decLt lastStatic (advanceVerdict L)))))
+      go (yes l) = inr (inl (subst Static (sym (refused-number L l)) (few l)))
       go (no l) =
           subst (λ (n : ℕ). (n ≡ acceptedNumber) ⊎ (Static n ⊎ Arising n)) (sym (step-answered L (omega (arith, l)))) (step (outcome L) refl)
 
-  -- an advance answers 1 to 13 and 21 with the place of the first refusal that applies before anything runs
+  -- an advance answers a number of the static verdict with the place of the first refusal that applies before anything runs
   pub advance-judged-at : (x : Answer) → Static (x .number) → (advanceAnswer L .answer ≡ x) ↔ (firstRefusal advanceRefusals L ≡ x)
   advance-judged-at x s = (there, back)
     where
       some : acceptedNumber < x .number
-      some = ⊎-elim (λ w. w .0) (λ w. omega (arith, w)) s
+      some = not-arising (x .number) s .0
 
       there : advanceAnswer L .answer ≡ x → firstRefusal advanceRefusals L ≡ x
       there e =

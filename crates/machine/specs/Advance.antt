@@ -106,7 +106,7 @@ joinedRefusal = record {
   rows = λ L. joinedTests (L .tables) (L .schedule);
 }
 
--- the static verdict of an advance: numbers 1 to 11, 13 and 21
+-- the static verdict of an advance: numbers 1 to 11, 24, 13 and 21
 abbrev pub runRefusals : List (Refusal Advance)
 runRefusals =
     joinedRefusal ∷ unplaced stateRefused stateBad

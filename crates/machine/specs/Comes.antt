@@ -1,25 +1,25 @@
--- What an advance that 1 to 13 and 21 pass comes to, in document 01's words: from where its instant begins, instruction by instruction,
--- to a `return` and a tick, or to a refusal with one of 16 to 20. "Only executed instructions count"; "at one instruction the order is
--- 20, 19, 16, 17"; "running off the end is 19, never 20".
+-- What an advance that 1 to 11, 24, 13 and 21 pass comes to, in document 01's words: from where its instant begins, instruction by
+-- instruction, to a `return` and a tick, or to a refusal with one of 16 to 20. "Only executed instructions count"; "at one instruction the
+-- order is 20, 19, 16, 17"; "running off the end is 19, never 20".
 use Prim.Native.Nat.{ℕ, zero, suc, _≤_, _<_}
 use mathlib.Core.Path.{_≡_}
 use mathlib.Core.Bool.{false}
 use mathlib.Core.List.{List}
 use mathlib.Core.Logic.{_⊎_}
 use lib.ListN.{length, getD}
-use Rattle.cells.specs.Refusals.{shapeRefused, timeRefused, countRefused, stateRefused}
+use Rattle.theory.specs.Verdict.{OneOf}
+use Rattle.cells.specs.Refusals.{timeRefused, countRefused}
 use Rattle.program.specs.Program.{Program, programOf}
 use Rattle.code.specs.Op.{Op, return, faulty, instructions}
-use Rattle.suppliers.specs.Schedule.{lastStatic}
 use Rattle.machine.specs.declared.State.{State}
 use Rattle.machine.specs.declared.At.{At}
 use Rattle.machine.specs.Instruction.{Faulty, TimeBad, StillRunning, executes}
 use Rattle.machine.specs.Schedules.{Collision}
-use Rattle.machine.specs.Advance.{Advance}
+use Rattle.machine.specs.Advance.{Advance, advanceRules}
 
 -- the numbers that are given before anything runs, and those that arise in execution
 abbrev pub Static : ℕ → Type 0
-Static n = ((shapeRefused ≤ n) × (n ≤ lastStatic)) ⊎ (n ≡ stateRefused)
+Static n = OneOf advanceRules n
 
 abbrev pub Arising : ℕ → Type 0
 Arising n = (timeRefused ≤ n) × (n ≤ countRefused)

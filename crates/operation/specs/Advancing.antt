@@ -16,6 +16,6 @@ lentOf readings results times = record { readings = readings; results = results;
 abbrev pub advancing : Tables → List ℕ → List ℤ → State → Lent → Advance
 advancing T code schedule s X = record { tables = T; code = code; schedule = schedule; state = s; lent = X }
 
--- the answer of an advance before anything runs: the first of numbers 1 to 11, 13 and 21 that applies, with its place
+-- the answer of an advance before anything runs: the first of numbers 1 to 11, 24, 13 and 21 that applies, with its place
 unfoldable pub judgedAnswer : Advance → Answer
 judgedAnswer L = firstRefusal advanceRefusals L

@@ -1,4 +1,4 @@
-// Numbers 1 to 11, 13 and 21 of an advance, with their places: what is asked before anything runs.
+// Numbers 1 to 11, 24, 13 and 21 of an advance, with their places: what is asked before anything runs.
 ghost use mathlib.Core.Path.{_≡_};
 ghost use lib.IntN.{ℤ};
 ghost use Rattle.cells.specs.Limits.{maxCode, wordsEach};
@@ -45,7 +45,7 @@ fn shape_bad(
         | (times.len() != Program::TASKS)
 }
 
-// The first of numbers 1 to 11, 13 and 21 that applies to an advance, with its place; accepted where none does.
+// The first of numbers 1 to 11, 24, 13 and 21 that applies to an advance, with its place; accepted where none does.
 pub fn answer(
     tables: &[&[i32]; Program::TABLES],
     program: Program,

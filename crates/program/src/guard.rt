@@ -1,13 +1,16 @@
-// When a guard holds, and whether two can hold for one valuation of the ports.
+// When a guard holds, what it looks at, and whether two can hold for one valuation of the ports.
 ghost use mathlib.Core.Path.{_≡_};
+ghost use mathlib.Core.Bool.{_&&_};
 ghost use lib.Dec.{eqb};
 ghost use lib.Signed.{leZ};
+ghost use Rattle.readings.specs.Reading.{isMissing};
 ghost use Rattle.program.specs.Tables.{Tables, guardKind, guardPort, guardLow, guardHigh, kindAlways, kindInterval};
 ghost use Rattle.program.specs.Guard.{guardOf, holds, meet};
 ghost use Rattle.program.specs.Ports.{valueOf};
 use cells::columns::driver;
 use cells::drivers;
 use cells::kinds::Driver;
+use cells::kinds::Port;
 use cells::ports;
 use readings::Reading;
 
@@ -23,6 +26,22 @@ pub fn is_interval(drivers: &[i32], d: Driver) -> bool
     ensures { λ r. ⌜ ((T : Tables) → T .drivers ≡ now (drivers .entry) → r ≡ eqb (guardKind T (d .0)) kindInterval) ⌝ }
 {
     drivers::guard(drivers, d) == driver::INTERVAL
+}
+
+// The interval of driver d's guard is from no-reading to no-reading.
+pub fn is_missing_alone(drivers: &[i32], d: Driver) -> bool
+    ensures { λ r. ⌜ ((T : Tables) → T .drivers ≡ now (drivers .entry)
+        → r ≡ (isMissing (guardLow T (d .0)) && isMissing (guardHigh T (d .0)))) ⌝ }
+{
+    Reading(drivers::low(drivers, d)).is_missing() & Reading(drivers::high(drivers, d)).is_missing()
+}
+
+// The guard of driver d is an interval on port p.
+pub fn looks_at(drivers: &[i32], d: Driver, p: Port) -> bool
+    ensures { λ r. ⌜ ((T : Tables) → T .drivers ≡ now (drivers .entry)
+        → r ≡ (eqb (guardKind T (d .0)) kindInterval && eqb (guardPort T (d .0)) (p .0))) ⌝ }
+{
+    is_interval(drivers, d) & drivers::port(drivers, d).is(p)
 }
 
 // The guards of drivers d and e ask the same port.

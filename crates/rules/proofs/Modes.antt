@@ -1,11 +1,12 @@
 -- Numbers 6, 7 and 8: each row with the ports of its driver and against the rows before it, as 001's claims.
 -- 8 assumes number 2, and that the numbers of the drivers' table are of 32 bits.
 use Prim.Native.Nat.{ℕ, _<_}
-use mathlib.Core.Path.{_≡_, refl}
+use mathlib.Core.Path.{_≡_, refl, sym}
 use mathlib.Core.Bool.{Bool, true, false}
 use mathlib.Core.Logic.{_⊎_, ⊎-elim}
 use native.Mathlib.Omega.{arith}
 use lib.Dec.{eqb}
+use lib.IntN.{ℤ}
 use borrow.Author.Tests.{eqb-false}
 use Rattle.theory.specs.Claim.{Bars}
 use Rattle.theory.proofs.Bools.{says-or, says-eq, bars-not, bars-says, bars-and, bars-as, _or_}
@@ -15,10 +16,10 @@ use Rattle.theory.proofs.Verdict.{Rowed, bars-rows}
 use Rattle.program.specs.Tables.{Tables, sensor, actuator, driverCount, guardKind, guardPort, guardLow, guardHigh, kindAlways}
 use Rattle.program.specs.Tables.{invocationMode, invocationTask, invocationDriver, updateMode, updateDriver, switchCount, switchMode}
 use Rattle.program.specs.Tables.{switchTarget, switchDriver, invocationsAt, updatesAt, switchesAt}
-use Rattle.program.specs.Guard.{always, interval, guardOf}
+use Rattle.program.specs.Guard.{always, interval, guardOf, holds}
 use Rattle.program.specs.Sets.{Sensor, ModePort}
 use Rattle.program.proofs.Sets.{kind-says, input-says, output-says, mode-port-says, destination-says}
-use Rattle.program.proofs.Guards.{Sound, meet-says}
+use Rattle.program.proofs.Guards.{Sound, meet-says, guards-meet}
 use Rattle.rules.specs.Fields.{Fields}
 use Rattle.rules.specs.Modes.{unreadable, invocationClash, invocationWrong, invocationTests, invocationsBad, Invocations}
 use Rattle.rules.specs.Modes.{InvocationRow, invocationRules, updateClash, updateWrong, updateTests, updatesBad, Updates, UpdateRow}
@@ -120,7 +121,7 @@ module _ (T : Tables) (f : Fields T) where
       go false e = ⊎-elim (λ a. absurd (eqb-false _ _ e (a .kind))) (λ i. (i .low, i .high, i .ordered)) (f .drivers d l)
 
   -- the guard of a switch row is no empty interval
-  switch-sound : (i : ℕ) → i < switchCount T → Sound (guardOf T (switchDriver T i))
+  pub switch-sound : (i : ℕ) → i < switchCount T → Sound (guardOf T (switchDriver T i))
   switch-sound i h = guard-sound (switchDriver T i) (f .switches i h .driver)
 
   -- the test of a switch row bars what rule 8 asks of it
@@ -159,3 +160,11 @@ module _ (T : Tables) (f : Fields T) where
             record { sources = λ p. s .sources i p h; destinations = λ p. s .destinations i p h; apart = λ j l. s .apart i j l h },
         tt,
       ))
+
+  -- where rule 8 holds, two switches of one mode whose guards hold for one valuation are one row
+  pub switch-once : Switches T → (v : ℕ → ℤ) (i j : ℕ) → i < switchCount T → j < switchCount T → switchMode T i ≡ switchMode T j
+      → holds (guardOf T (switchDriver T i)) v ≡ true → holds (guardOf T (switchDriver T j)) v ≡ true → i ≡ j
+  switch-once s v i j h l e a b =
+      let before : i < j → ⊥ = λ o. s .apart j i o l e (guards-meet T _ _ v (switch-sound i h) (switch-sound j l) a b) in
+      let behind : j < i → ⊥ = λ o. s .apart i j o h (sym e) (guards-meet T _ _ v (switch-sound j l) (switch-sound i h) b a) in
+      omega (arith, before, behind)

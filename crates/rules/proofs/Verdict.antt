@@ -3,21 +3,23 @@
 use Prim.Native.Nat.{ℕ, _<_}
 use mathlib.Core.Path.{_≡_, refl}
 use mathlib.Core.List.{_∷_}
-use mathlib.Core.Logic.{_↔_, ⊎-elim}
+use mathlib.Core.Logic.{_↔_}
 use native.Mathlib.Omega.{arith}
-use Rattle.theory.specs.Verdict.{acceptedNumber, First, Keep, FirstAt}
+use Rattle.theory.specs.Verdict.{acceptedNumber, unplacedRule, First, Keep, FirstAt}
 use Rattle.theory.specs.declared.Answer.{Answer}
-use Rattle.theory.proofs.Verdict.{Barred, verdict-first, first-none, answer-first, answer-number}
+use Rattle.theory.proofs.Verdict.{Barred, verdict-first, first-none, first-last, answer-first, answer-number}
 use Rattle.readings.specs.Reading.{Inside, noReading}
-use Rattle.readings.proofs.Readings.{missing-only-its-own}
 use Rattle.program.specs.Tables.{Tables, driverCount, guardKind, guardLow, guardHigh, kindInterval}
+use Rattle.cells.specs.Refusals.{gapRefused}
 use Rattle.rules.specs.Fields.{Fields}
-use Rattle.rules.specs.Verdict.{shapeRefusal, tableRefusals, programVerdict, programAnswer, programRules}
+use Rattle.rules.specs.Missing.{NoGap, MissingMet}
+use Rattle.rules.specs.Verdict.{shapeRefusal, tableRefusals, programVerdict, programAnswer, publishedRules, programRules}
 use Rattle.rules.proofs.Shape.{shape-bars}
 use Rattle.rules.proofs.Fields.{fields-bar, fields-rowed}
 use Rattle.rules.proofs.Declared.{task-ports-bar, task-ports-rowed, copies-bar, copies-rowed, mode-ports-bar, mode-ports-rowed}
 use Rattle.rules.proofs.Modes.{invocations-bar, invocations-rowed, updates-bar, updates-rowed, switches-bar, switches-rowed}
 use Rattle.rules.proofs.Timing.{units-bar, units-rowed, whole-bars, whole-rowed}
+use Rattle.rules.proofs.Missing.{gap-bars, missing-alone, gap-iff}
 
 module _ (T : Tables) where
   -- each test of the verdict bars the rule of its number where the earlier rules hold
@@ -42,8 +44,7 @@ module _ (T : Tables) where
                     record { number = refl; bars = units-bar T; rows = units-rowed T },
                     λ units. (
                       record { number = refl; bars = whole-bars T; rows = whole-rowed T },
-                      λ whole.
-                          tt,
+                      λ whole. (record { number = refl; bars = gap-bars T; rows = tt }, λ gap. tt),
                     ),
                   ),
                 ),
@@ -80,6 +81,20 @@ module _ (T : Tables) where
   pub missing-guard : programVerdict T ≡ acceptedNumber → (d : ℕ) → d < driverCount T → guardKind T d ≡ kindInterval
       → Inside (guardLow T d) noReading (guardHigh T d) → (guardLow T d ≡ noReading) × (guardHigh T d ≡ noReading)
   missing-guard a d l k w =
-      let f : Fields T = program-accepted .0 a .1 .0 in
-      ⊎-elim (λ o. absurd (omega (arith, o .kind)))
-      (λ i. let e = missing-only-its-own (guardLow T d) (guardHigh T d) (i .low .0) w in (e, i .missing e)) (f .drivers d l)
+      let f : Fields T = program-accepted .0 a .1 .0 in missing-alone T f d l k w
+
+  -- in an accepted program a missing reading satisfies the guard of exactly one switch of every mode that looks at its sensor
+  pub missing-met : programVerdict T ≡ acceptedNumber → MissingMet T
+  missing-met a =
+      let k = program-accepted .0 a in gap-iff T (k .1 .0) (k .1 .1 .1 .1 .1 .1 .1 .0) .0 (k .1 .1 .1 .1 .1 .1 .1 .1 .1 .1 .0)
+
+  -- 24 is given exactly where numbers 1 to 10 do not apply and that does not hold
+  pub gap-exact : (programVerdict T ≡ gapRefused) ↔ (Keep publishedRules T × (MissingMet T → ⊥))
+  gap-exact =
+      let (there, back) = first-last publishedRules (unplacedRule gapRefused NoGap) T (omega arith) (omega arith) in (
+        λ e. let (k, b) = there (program-first gapRefused .0 e) in (k, λ g. b (joined k .1 g)),
+        λ (k, b). program-first gapRefused .1 (back (k, λ g. b (joined k .0 g))),
+      )
+    where
+      joined : Keep publishedRules T → NoGap T ↔ MissingMet T
+      joined k = gap-iff T (k .1 .0) (k .1 .1 .1 .1 .1 .1 .1 .0)

@@ -1,5 +1,5 @@
--- What has its shape; a supplier's part that is not refused by 1 to 13: the program is accepted, and every task of it that is released
--- is declared and takes time. Assumes that the verdict on the part is 0; of `windows-accepted` and `part-..-after`, that the windows
+-- What has its shape; a supplier's part that is not refused by 1 to 13 or 24: the program is accepted, and every task of it that is
+-- released is declared and takes time. Assumes that the verdict on the part is 0; of `windows-accepted` and `part-..-after`, that the windows
 -- verdict is; of `own-declared` and `owner-declared`, that the program is accepted; of what has its shape, that number 1 does not apply.
 use Prim.Native.Nat.{ℕ, _<_}
 use mathlib.Core.Path.{_≡_, refl, sym, ap, subst, _∙_}

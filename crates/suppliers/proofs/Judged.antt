@@ -1,5 +1,5 @@
--- The verdict on a supplier's code past 1 to 13 is that of its runs in the modes; where every worst-case run is good, it is 0 without a
--- place. Assumes that the verdict on the part is 0.
+-- The verdict on a supplier's code past 1 to 13 and 24 is that of its runs in the modes; where every worst-case run is good, it is 0 without
+-- a place. Assumes that the verdict on the part is 0.
 use Prim.Native.Nat.{ℕ, _<_}
 use mathlib.Core.Path.{_≡_, sym, ap, _∙_}
 use native.Mathlib.Omega.{arith}

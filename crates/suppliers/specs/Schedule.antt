@@ -13,15 +13,10 @@ use lib.ListN.{length}
 use Rattle.theory.specs.Lists.{those}
 use Rattle.theory.specs.Rows.{RowTests, testing, someBad, RowRules, asking}
 use Rattle.cells.specs.Limits.{suppliers, maxPart}
-use Rattle.cells.specs.Refusals.{scheduleRefused}
 use Rattle.program.specs.Tables.{Tables, taskCount, taskSupplier, scheduleAt, supplierAt}
 use Rattle.code.specs.Op.{Op}
 use Rattle.code.specs.Compile.{listingOf, delayAt}
 use Rattle.runs.specs.Schedule.{scheduleCount, rowSupplier, rowAddress, rowKind, rowTask, rowTimeout, kindDispatch, kindIdle, Sorted}
-
--- the last number that is given before anything runs, but for 21
-abbrev pub lastStatic : ℕ
-lastStatic = scheduleRefused
 
 -- there is a delay, and the timeout is within it
 abbrev pub inDelay : Option ℕ → ℕ → Bool

@@ -109,7 +109,7 @@ ownRefusals = within windowedOf windowsRefusal ∷ partRefusal ∷ []
 abbrev pub partRefusals : List (Refusal Asked)
 partRefusals = callRefusals (λ L. L .tables) partShapeBad ownRefusals
 
--- the verdict on a supplier's part before it is run: numbers 1 to 13
+-- the verdict on a supplier's part before it is run: numbers 1 to 13 and 24
 unfoldable pub partVerdict : Asked → ℕ
 partVerdict L = verdict partRefusals L
 
@@ -134,6 +134,6 @@ partRules = callRules (λ L. L .tables) PartShaped ownRules
 unfoldable pub partAnswer : Asked → Answer
 partAnswer L = firstRefusal partRefusals L
 
--- the verdict on a supplier's schedule code: the first of numbers 1 to 13 with its place, else what its run comes to
+-- the verdict on a supplier's schedule code: the first of numbers 1 to 13 and 24 with its place, else what its run comes to
 unfoldable pub supplierVerdict : Asked → Answer
 supplierVerdict L = elim (partVerdict L) [ zero ↦ judged L | suc n ↦ partAnswer L ]

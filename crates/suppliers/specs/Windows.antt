@@ -70,7 +70,7 @@ windowRowsRefusals = windowsRefusal ∷ []
 abbrev pub windowsVerdictRefusals : List (Refusal Windowed)
 windowsVerdictRefusals = callRefusals (λ L. L .tables) windowsShapeBad windowRowsRefusals
 
--- the windows verdict: numbers 1 to 12
+-- the windows verdict: numbers 1 to 12 and 24
 unfoldable pub windowsVerdict : Windowed → ℕ
 windowsVerdict L = verdict windowsVerdictRefusals L
 

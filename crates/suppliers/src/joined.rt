@@ -19,7 +19,7 @@ use cells::tables;
 use layout::delays;
 use theory::Answer;
 
-// The answer on the joined schedule, by the delays that are counted; of a program that 1 to 11 pass, by those of its listing.
+// The answer on the joined schedule, by the delays that are counted; of a program that 1 to 11 and 24 pass, by those of its listing.
 pub fn answer(tables: &[&[i32]; Program::TABLES], rows: &[i32]) -> Answer
     requires { ⌜ InShape (now tables) ⌝ }
     ensures counted { λ r. ⌜ ((start : ℤ) → let T = tablesIn (now (tables .entry)) start in

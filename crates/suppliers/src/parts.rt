@@ -33,7 +33,7 @@ fn asked(supplier: usize) -> Answer
     answers::accepted()
 }
 
-// The answer on the part of one supplier, by the delays that are counted; of a program that 1 to 11 pass, by those of its listing.
+// The answer on the part of one supplier, by the delays that are counted; of a program that 1 to 11 and 24 pass, by those of its listing.
 pub fn answer(tables: &[&[i32]; Program::TABLES], rows: &[i32], supplier: usize) -> Answer
     requires { ⌜ InShape (now tables) ⌝ }
     ensures counted { λ r. ⌜ ((start : ℤ) → let T = tablesIn (now (tables .entry)) start in

@@ -8,14 +8,15 @@ use mathlib.Core.Bool.{Bool, true, false, _||_, cond}
 use mathlib.Core.List.{List, [], _∷_, _++_, map}
 use mathlib.Core.Logic.{_⊎_, inl, inr, _↔_}
 use native.Mathlib.Omega.{arith}
-use lib.Dec.{ltb}
+use lib.Dec.{eqb, ltb}
+use borrow.Author.Tests.{eqb-true}
 use Rattle.theory.specs.Search.{any, first}
 use Rattle.theory.specs.Claim.{Bars}
 use Rattle.theory.specs.Rows.{RowTests, testing, RowRules, placeless, atRow, someBad, lowestBad, Every, Breaks, PlacedAt, Unbroken}
-use Rattle.theory.specs.Verdict.{acceptedNumber, orElse, Refusal, within, verdict, firstRefusal, orNext, Rule, holding, First, Keep, rowsAnswer, foundAt}
+use Rattle.theory.specs.Verdict.{acceptedNumber, orElse, Refusal, within, verdict, firstRefusal, orNext, Rule, holding, OneOf, First, Keep, rowsAnswer, foundAt}
 use Rattle.theory.specs.Verdict.{after, FirstAt, ByRows}
 use Rattle.theory.specs.declared.Answer.{Answer}
-use Rattle.theory.proofs.Bools.{bars-iff, bars-as}
+use Rattle.theory.proofs.Bools.{clash, bars-iff, bars-as}
 use Rattle.theory.proofs.Search.{search-says}
 use Rattle.theory.proofs.Rows.{RowsJoined, rows-bar, lowest-one, placed-number, placed-lowest, every-unbroken}
 
@@ -195,6 +196,73 @@ module _ {A : Type 0} where
           → ((g .holds a → ⊥) × (acceptedNumber ≡ g .number)) ⊎ (g .holds a × First gs a acceptedNumber) → g .holds a × Keep gs a
       there ih (inl x) = absurd (w .0 (sym (x .1)))
       there ih (inr x) = (x .0, ih (x .1))
+
+  -- each number of these rules has the property N
+  abbrev pub Each : (ℕ → Type 0) → List (Rule A) → Type 0
+  Each N [] = Unit {0}
+  Each N (g ∷ gs) = N (g .number) × Each N gs
+
+  -- the number of one of these rules has the property that each of their numbers has
+  pub one-each : (N : ℕ → Type 0) (gs : List (Rule A)) (n : ℕ) → Each N gs → OneOf gs n → N n
+  one-each N [] n w o = absurd o
+  one-each N (g ∷ gs) n w (inl e) = subst N (sym e) (w .0)
+  one-each N (g ∷ gs) n w (inr o) = one-each N gs n (w .1) o
+
+  -- a number that stands in a list of rules is that of one of them
+  abbrev pub listed : List (Rule A) → ℕ → Bool
+  listed [] n = false
+  listed (g ∷ gs) n = eqb n (g .number) || listed gs n
+
+  pub listed-one : (gs : List (Rule A)) (n : ℕ) → listed gs n ≡ true → OneOf gs n
+  listed-one [] n e = clash {b = false} e refl
+  listed-one (g ∷ gs) n e = go (listed-one gs n) (eqb n (g .number)) refl e
+    where
+      go : (listed gs n ≡ true → OneOf gs n) → (b : Bool) → eqb n (g .number) ≡ b → (b || listed gs n) ≡ true → (n ≡ g .number) ⊎ OneOf gs n
+      go ih true q h = inl (eqb-true n (g .number) q)
+      go ih false q h = inr (ih h)
+
+  -- refusals and rules have the same numbers in the same order
+  abbrev pub Alike : List (Refusal A) → List (Rule A) → Type 0
+  Alike [] [] = Unit {0}
+  Alike [] (g ∷ gs) = ⊥
+  Alike (r ∷ rs) [] = ⊥
+  Alike (r ∷ rs) (g ∷ gs) = (r .number ≡ g .number) × Alike rs gs
+
+  -- a verdict accepts, or its number is that of one of the rules
+  pub verdict-one : (rs : List (Refusal A)) (gs : List (Rule A)) (a : A) → Alike rs gs → (verdict rs a ≡ acceptedNumber) ⊎ OneOf gs (verdict rs a)
+  verdict-one [] [] a w = inl refl
+  verdict-one [] (g ∷ gs) a w = absurd w
+  verdict-one (r ∷ rs) [] a w = absurd w
+  verdict-one (r ∷ rs) (g ∷ gs) a w = go (r .applies a) (verdict-one rs gs a (w .1))
+    where
+      go : (b : Bool) → (verdict rs a ≡ acceptedNumber) ⊎ OneOf gs (verdict rs a)
+          → (orElse b (r .number) (verdict rs a) ≡ acceptedNumber)
+          ⊎ ((orElse b (r .number) (verdict rs a) ≡ g .number) ⊎ OneOf gs (orElse b (r .number) (verdict rs a)))
+      go true ih = inr (inl (w .0))
+      go false (inl e) = inl e
+      go false (inr o) = inr (inr o)
+
+  -- a number is that of none of these rules
+  abbrev pub Unlike : List (Rule A) → ℕ → Type 0
+  Unlike [] n = Unit {0}
+  Unlike (g ∷ gs) n = (n ≡ g .number → ⊥) × Unlike gs n
+
+  -- the number of a rule that is asked last is the first exactly where all rules before it hold and it does not
+  pub first-last : (gs : List (Rule A)) (r : Rule A) (a : A) → Unlike gs (r .number) → (r .number ≡ acceptedNumber → ⊥)
+      → First (gs ++ (r ∷ [])) a (r .number) ↔ (Keep gs a × (r .holds a → ⊥))
+  first-last [] r a u w = (last, λ (k, b). inl (b, refl))
+    where
+      last : ((r .holds a → ⊥) × (r .number ≡ r .number)) ⊎ (r .holds a × (r .number ≡ acceptedNumber)) → Unit {0} × (r .holds a → ⊥)
+      last (inl x) = (tt, x .0)
+      last (inr x) = absurd (w (x .1))
+  first-last (g ∷ gs) r a u w =
+      let ih = first-last gs r a (u .1) w in (there (ih .0), λ (k, b). inr (k .0, ih .1 (k .1, b)))
+    where
+      there : (First (gs ++ (r ∷ [])) a (r .number) → Keep gs a × (r .holds a → ⊥))
+          → ((g .holds a → ⊥) × (r .number ≡ g .number)) ⊎ (g .holds a × First (gs ++ (r ∷ [])) a (r .number))
+          → (g .holds a × Keep gs a) × (r .holds a → ⊥)
+      there ih (inl x) = absurd (u .0 (x .1))
+      there ih (inr x) = let (k, b) = ih (x .1) in ((x .0, k), b)
 
   -- any two numbers of the first rule that is broken are equal
   pub first-one : (gs : List (Rule A)) (a : A) (n m : ℕ) → First gs a n → First gs a m → n ≡ m

@@ -72,6 +72,11 @@ unplacedRule n H = record { number = n; holds = H; rows = λ a. [] }
 abbrev pub holding : {A B : Type 0} → (B → A) → Rule A → Rule B
 holding f r = record { number = r .number; holds = λ b. r .holds (f b); rows = λ b. r .rows (f b) }
 
+-- n is the number of one of these rules
+abbrev pub OneOf : {A : Type 0} → List (Rule A) → ℕ → Type 0
+OneOf [] n = ⊥
+OneOf (r ∷ rs) n = (n ≡ r .number) ⊎ OneOf rs n
+
 -- n is the number of the first rule of a list that is broken, and `acceptedNumber` where every rule holds
 abbrev pub First : {A : Type 0} → List (Rule A) → A → ℕ → Type 0
 First [] a n = n ≡ acceptedNumber

@@ -1,4 +1,4 @@
-// The verdict on a program: numbers 1 to 10 of document 01, the first that applies, and the row that it names.
+// The verdict on a program: numbers 1 to 10 and 24, the first that applies, and the row that it names.
 ghost use mathlib.Core.Path.{_≡_};
 ghost use lib.IntN.{ℤ};
 ghost use Rattle.theory.specs.Verdict.{firstRefusal, foundAt};
@@ -22,10 +22,10 @@ use rules_6_10::updates;
 use rules_6_10::whole;
 use theory::Answer;
 
-// How many numbers are asked of tables that have their shape: 2 to 10.
-const ASKED: usize = 9;
+// How many numbers are asked of tables that have their shape: 2 to 10 and 24.
+const ASKED: usize = 10;
 
-// The numbers 2 to 10, in the order in which they are asked.
+// The numbers 2 to 10 and 24, in the order in which they are asked.
 const ORDER: [usize; ASKED] = [
     refusals::FIELDS,
     refusals::TASK_PORTS,
@@ -36,6 +36,7 @@ const ORDER: [usize; ASKED] = [
     refusals::SWITCHES,
     refusals::UNITS,
     refusals::WHOLE,
+    refusals::GAP,
 ];
 
 // What a search over all rows of a table comes to that ended at this row: this number there, or accepted behind the last row.
@@ -45,7 +46,8 @@ fn named(tables: &[&[i32]; Program::TABLES], number: usize, table: usize, row: u
     answers::found(number, table, row, rows::count(tables, table))
 }
 
-// What this number, one of 2 to 10, comes to on tables that have their shape: its place, or accepted; any other number is accepted.
+// What this number, one of 2 to 10 or 24, comes to on tables that have their shape: itself with its place, or accepted; any other number
+// is accepted.
 fn by_number(tables: &[&[i32]; Program::TABLES], program: Program, number: usize) -> Answer
     requires { ⌜ InShape (now tables) ⌝ }
     ensures { λ r. ⌜ r ≡ answerBy tableRefusals number (tablesIn (now (tables .entry)) (program .start)) ⌝ }
@@ -102,11 +104,19 @@ fn by_number(tables: &[&[i32]; Program::TABLES], program: Program, number: usize
             let row = whole::first_not_whole(tables[tables::INVOCATIONS], tables[tables::SWITCHES]);
             named(tables, number, tables::SWITCHES, row)
         }
+        refusals::GAP => {
+            let gap = rules_24::has_gap(
+                tables[tables::PORTS],
+                tables[tables::DRIVERS],
+                tables[tables::SWITCHES],
+            );
+            answers::where_applies(number, gap)
+        }
         _ => answers::accepted(),
     }
 }
 
-// The first of numbers 2 to 10 that applies to tables in shape, with its place, as every call asks it after its own number 1.
+// The first of numbers 2 to 10 and 24 that applies to tables in shape, with its place, as every call asks it after its own number 1.
 pub fn table_verdict(tables: &[&[i32]; Program::TABLES], program: Program) -> Answer
     requires { ⌜ InShape (now tables) ⌝ }
     ensures { λ r. ⌜ r ≡ firstRefusal tableRefusals (tablesIn (now (tables .entry)) (program .start)) ⌝ }
@@ -122,7 +132,7 @@ pub fn table_verdict(tables: &[&[i32]; Program::TABLES], program: Program) -> An
     answers::accepted()
 }
 
-// The verdict on a program: the first of numbers 1 to 10 that applies, with its place, of any slices at all; 0 where none does.
+// The verdict on a program: the first of numbers 1 to 10 and 24 that applies, with its place, of any slices at all; 0 where none does.
 pub fn program_verdict(tables: &[&[i32]; Program::TABLES], program: Program) -> Answer
     ensures { λ r. ⌜ r ≡ programAnswer (tablesIn (now (tables .entry)) (program .start)) ⌝ }
 {

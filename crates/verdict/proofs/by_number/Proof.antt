@@ -1,13 +1,13 @@
--- `verdict::by_number` meets its contract: each number has the rows of its refusal.
+-- `verdict::by_number` meets its contract: each number has the rows of its refusal, and 24 none.
 use Prim.Native.Nat.{ℕ}
-use mathlib.Core.Path.{_≡_, refl, sym, ap, _∙_}
-use mathlib.Core.Bool.{Bool}
+use mathlib.Core.Path.{_≡_, refl, sym, ap, ap₂, _∙_}
+use mathlib.Core.Bool.{Bool, cond}
 use mathlib.Core.List.{[], _∷_}
 use lib.IntN.{ℤ}
 use borrow.Author.Needs.{needs}
 use Rattle.theory.specs.Search.{first}
-use Rattle.theory.specs.Rows.{testing}
-use Rattle.theory.specs.Verdict.{rowsAnswer, foundAt}
+use Rattle.theory.specs.Rows.{placeless, testing}
+use Rattle.theory.specs.Verdict.{acceptedNumber, rowsAnswer, foundAt}
 use Rattle.theory.specs.declared.Answer.{Answer}
 use Rattle.theory.proofs.Verdict.{found-rows}
 use Rattle.program.specs.Tables.{Tables, tablesIn, rowsAt, taskPortsAt, copiesAt, modesAt, modePortsAt, invocationsAt, updatesAt, switchesAt}
@@ -99,6 +99,21 @@ first-not-whole-requires c κs = search needs
 named-requires-8 : tie.Need-named-requires-8
 named-requires-8 c κs = search needs
 
+element-copy-out-has-gap : tie.Need-element-copy-out-has-gap
+element-copy-out-has-gap c = search needs
+
+element-copy-out-has-gap-2 : tie.Need-element-copy-out-has-gap-2
+element-copy-out-has-gap-2 c = search needs
+
+element-copy-out-has-gap-3 : tie.Need-element-copy-out-has-gap-3
+element-copy-out-has-gap-3 c = search needs
+
+has-gap-requires : tie.Need-has-gap-requires
+has-gap-requires c κs = search needs
+
+where-applies-requires : tie.Need-where-applies-requires
+where-applies-requires c κs = search needs
+
 accepted-requires : tie.Need-accepted-requires
 accepted-requires c κs = search needs
 
@@ -169,6 +184,15 @@ returns-9 c =
 
 returns-10 : tie.Need-returns-10
 returns-10 c =
+    let m = c .before .before .before .before .before in
+    let T = lent (m .before) in
+    answer-as tableRefusals T (m .match .keys10)
+    (c .where-applies .ensures
+    ∙ ap₂ (λ (n : ℕ) (b : Bool). cond b (placeless n) (placeless acceptedNumber)) (m .match .keys10)
+    (c .before .has-gap .ensures T refl refl refl))
+
+returns-11 : tie.Need-returns-11
+returns-11 c =
     let m = c .before in
     c .accepted .ensures ∙ sym (answer-other (Unit {0}) tableRefusals (lent (m .before)) (m .before .args .number) (m .match .rest) .1)
 
@@ -202,6 +226,11 @@ by-number-spec =
     element-copy-out-first-not-whole-2
     first-not-whole-requires
     named-requires-8
+    element-copy-out-has-gap
+    element-copy-out-has-gap-2
+    element-copy-out-has-gap-3
+    has-gap-requires
+    where-applies-requires
     accepted-requires
     returns
     returns-2
@@ -212,4 +241,5 @@ by-number-spec =
     returns-7
     returns-8
     returns-9
-    returns-10)
+    returns-10
+    returns-11)

@@ -1,0 +1,106 @@
+-- A missing reading is taken: in an accepted program by exactly one switch of every mode that looks at its sensor, and in a composed run
+-- at every instant at which that switch is due. The statements' premises are that the program, or the system, is accepted, and that the
+-- ticks are suited.
+use Prim.Native.Nat.{ℕ, suc, _+_, _/_, _%_, _<_}
+use mathlib.Core.Path.{_≡_, sym, ap, ap₂, _∙_}
+use mathlib.Core.Logic.{inl, inr}
+use native.Mathlib.Omega.{arith}
+use Rattle.theory.specs.Verdict.{Keep}
+use Rattle.program.specs.Tables.{Tables, switchTarget, modePeriod}
+use Rattle.program.specs.Units.{units}
+use Rattle.program.specs.Program.{Mode, modeRow, programOf, mode, ticksOf, nextUnit}
+use Rattle.program.specs.Ports.{valueOf}
+use Rattle.program.proofs.Decoded.{next-around, next-once, mode-row}
+use Rattle.rules.specs.Verdict.{programRules}
+use Rattle.rules.proofs.Verdict.{program-accepted}
+use Rattle.rules.proofs.Verdict as verdict
+use Rattle.code.specs.Listing.{futureAddress}
+use Rattle.giotto.specs.Instant.{Configuration, Function, results}
+use Rattle.giotto.specs.Successor.{Successor}
+use Rattle.giotto.proofs.Execution.{execution-succeeds}
+use Rattle.giotto.proofs.Taken.{sensor-read, is-taken}
+use Rattle.machine.specs.Advance.{Lent}
+use Rattle.composed.specs.Related.{Related}
+use Rattle.demands.specs.Composed.{System, joined, readings, stateAt, configurationAt}
+use Rattle.demands.specs.Missing.{MissingTaken, GapExact, Enters, MissingEnters}
+use Rattle.demands.proofs.Sound.{accepted-sound}
+use Rattle.demands.proofs.Composed.{related-always}
+
+-- a missing reading satisfies the guard of exactly one switch
+pub missing-taken : MissingTaken
+missing-taken T a = verdict.missing-met T a
+
+-- 24 is given exactly where that does not hold
+pub gap-exact : GapExact
+gap-exact T = verdict.gap-exact T
+
+module _ (Y : System) (F : Function) (lents : ℕ → Lent) (n m : ℕ) where
+  -- Giotto's configuration after tick n, and the mode that it is in
+  abbrev after : Configuration
+  after = configurationAt Y F lents (suc n)
+
+  abbrev entered : Mode
+  entered = mode (programOf (Y .tables)) (after .mode)
+
+  -- where a round of mode m has begun in Giotto's execution, the machine is in unit 0 of it
+  begun : after .mode ≡ m → after .unit ≡ 1 % units (Y .tables) (after .mode)
+      → after .time ≡ n + modePeriod (Y .tables) (after .mode) / units (Y .tables) (after .mode)
+      → Related (Y .tables) (Y .windows) (joined Y) F (suc n) after (stateAt Y lents (suc n)) → Enters Y F lents n m
+  begun e u t (inl o) = absurd (omega (arith, o .no-tick))
+  begun e u t (inr (k, g)) =
+      record {
+        mode = e;
+        round = record {
+          unit = some;
+          tick = omega (arith, stamp, g .stamp);
+          next = g .next ∙ ap (nextUnit entered) first;
+          stamp = omega (arith, stamp);
+        };
+        machine = g .current ∙ ap₂ (futureAddress (programOf (Y .tables))) e first;
+      }
+    where
+      row : entered ≡ modeRow (Y .tables) (after .mode)
+      row = mode-row (Y .tables) (after .mode) (g .declared)
+
+      some : 0 < entered .units
+      some = omega (arith, g .in-round)
+
+      first : k ≡ 0
+      first =
+          next-once entered k 0
+          (sym (g .next) ∙ u ∙ sym (ap (λ (M : Mode). 1 % M .units) row) ∙ sym (next-around entered 0 some))
+
+      stamp : after .time ≡ n + ticksOf entered
+      stamp = t ∙ sym (ap (λ (M : Mode). n + ticksOf M) row)
+
+-- a missing reading is taken at an instant at which the switch is due
+pub missing-enters : MissingEnters
+missing-enters Y a F lents n f i p s w d e =
+    begun Y F lents n (switchTarget T i) (taken .0) (S .next-unit ∙ ap (λ (u : ℕ). suc u % units T (after Y F lents n i .mode)) (taken .1))
+    (S .time-stamp ∙ ap (λ (x : ℕ). x + modePeriod T (after Y F lents n i .mode) / units T (after Y F lents n i .mode)) (d .instant))
+    (related-always Y a F lents (suc n) (λ k l. f k (omega arith)))
+  where
+    T : Tables
+    T = Y .tables
+
+    K : Keep programRules T
+    K = program-accepted T .0 (accepted-sound Y a .accepted)
+
+    C : Configuration
+    C = configurationAt Y F lents n
+
+    C′ : Configuration
+    C′ = configurationAt Y F lents (suc n)
+
+    S : Successor T (results (programOf T) F (C .ports)) (valueOf (lents n .readings)) C C′
+    S = execution-succeeds T K F (readings Y F lents) n (d .instant)
+
+    taken : (C′ .mode ≡ switchTarget T i) × (S .unit ≡ 0)
+    taken =
+        is-taken T K (results (programOf T) F (C .ports)) (valueOf (lents n .readings)) C C′ S i
+        (record {
+          in-table = d .of-mode .in-table;
+          of-mode = d .of-mode .of-mode;
+          is-due = d .is-due;
+          guard = w (S .after-sensors) (sensor-read T K (results (programOf T) F (C .ports)) (valueOf (lents n .readings)) C C′ S p s ∙ e);
+        })

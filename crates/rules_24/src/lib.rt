@@ -1,0 +1,69 @@
+// Number 24: a mode's switches look at a sensor, and none of them is for its missing reading alone.
+ghost use mathlib.Core.Path.{_≡_};
+ghost use Rattle.theory.specs.Search.{any};
+ghost use Rattle.program.specs.Tables.{Tables, switchCount};
+ghost use Rattle.rules.specs.Missing.{forMissing, gapAt, gapBad};
+use cells::columns::port;
+use cells::columns::switch;
+use cells::drivers;
+use cells::kinds::Mode;
+use cells::kinds::Port;
+use cells::table;
+use program::guard;
+use program::members;
+
+// Switch row j is one of mode m, and its guard is on port p for the no-reading value alone.
+fn for_missing(drivers: &[i32], switches: &[i32], m: Mode, p: Port, j: usize) -> bool
+    ensures { λ r. ⌜ ((T : Tables) → T .drivers ≡ now (drivers .entry) → T .switches ≡ now (switches .entry)
+        → r ≡ forMissing T (m .0) (p .0) j) ⌝ }
+{
+    let n = table::mode(switches, switch::WIDTH, j, switch::MODE);
+    let d = table::driver(switches, switch::WIDTH, j, switch::DRIVER);
+    n.is(m) & guard::looks_at(drivers, d, p) & guard::is_missing_alone(drivers, d)
+}
+
+// Some switch of mode m is on port p for the no-reading value alone.
+fn has_for_missing(drivers: &[i32], switches: &[i32], m: Mode, p: Port) -> bool
+    ensures { λ r. ⌜ ((T : Tables) → T .drivers ≡ now (drivers .entry) → T .switches ≡ now (switches .entry)
+        → r ≡ any (forMissing T (m .0) (p .0)) (switchCount T)) ⌝ }
+{
+    let n = switches.len() / switch::WIDTH;
+    let mut j = 0;
+    while j < n {
+        if for_missing(drivers, switches, m, p, j) {
+            return true;
+        }
+        j += 1;
+    }
+    false
+}
+
+// Switch row i looks at a sensor, and no switch of its mode is for that sensor's missing reading alone.
+fn gap_at(ports: &[i32], drivers: &[i32], switches: &[i32], i: usize) -> bool
+    ensures { λ r. ⌜ ((T : Tables) → T .ports ≡ now (ports .entry) → T .drivers ≡ now (drivers .entry)
+        → T .switches ≡ now (switches .entry) → r ≡ gapAt T i) ⌝ }
+{
+    let m = table::mode(switches, switch::WIDTH, i, switch::MODE);
+    let d = table::driver(switches, switch::WIDTH, i, switch::DRIVER);
+    let p = drivers::port(drivers, d);
+    if guard::is_interval(drivers, d) & members::is_kind(ports, port::SENSOR, p) {
+        return !has_for_missing(drivers, switches, m, p);
+    }
+    false
+}
+
+// Some switch row leaves a gap for a missing reading.
+pub fn has_gap(ports: &[i32], drivers: &[i32], switches: &[i32]) -> bool
+    ensures { λ r. ⌜ ((T : Tables) → T .ports ≡ now (ports .entry) → T .drivers ≡ now (drivers .entry)
+        → T .switches ≡ now (switches .entry) → r ≡ gapBad T) ⌝ }
+{
+    let n = switches.len() / switch::WIDTH;
+    let mut i = 0;
+    while i < n {
+        if gap_at(ports, drivers, switches, i) {
+            return true;
+        }
+        i += 1;
+    }
+    false
+}
