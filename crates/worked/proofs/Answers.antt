@@ -9,6 +9,7 @@ use lib.ListN.{replicate}
 use Rattle.theory.specs.Rows.{placeless, atRow}
 use Rattle.theory.specs.Verdict.{FirstAt}
 use Rattle.theory.specs.declared.Answer.{Answer}
+use Rattle.theory.proofs.Verdict.{listed-one}
 use Rattle.program.specs.Tables.{Tables, tables, sensor, modeCount}
 use Rattle.program.specs.Ports.{valueOf}
 use Rattle.rules.specs.Verdict.{programRules}
@@ -49,7 +50,7 @@ unfolding computed
 stranger-refused = refl
 
 pub F-stranger : FirstAt partRules stranger (atRow 13 13 0)
-F-stranger = supplier-exact stranger .refused (atRow 13 13 0) (omega arith) (omega arith) .0 stranger-refused
+F-stranger = supplier-exact stranger .refused (atRow 13 13 0) (listed-one partRules 13 refl) .0 stranger-refused
 
 -- a sensor whose first value is 5, in a program of these modes
 abbrev sensing : List ℕ → Tables

@@ -12,7 +12,7 @@ crowded-accepted : programVerdict crowded ≡ 0
 unfolding computed
 crowded-accepted = refl
 
--- units 0 to 3 of mode 0 at addresses 1, 19, 27 and 42, units 0 and 1 of mode 1 at 50 and 64; their entries at 9 and 56
+-- units 0 to 3 of mode 0 at addresses 1, 19, 27 and 42, units 0 and 1 of mode 1 at 50 and 67; their entries at 9 and 57
 crowded-listing : listingOf crowded
     ≡ jump 50
     ∷ call 1001
@@ -30,7 +30,7 @@ crowded-listing : listingOf crowded
     ∷ future 3 19
     ∷ return
     ∷ call 4
-    ∷ jump 56
+    ∷ jump 57
     ∷ call 5
     ∷ jump 9
     ∷ call 1000
@@ -55,7 +55,7 @@ crowded-listing : listingOf crowded
     ∷ future 3 42
     ∷ return
     ∷ call 4
-    ∷ jump 56
+    ∷ jump 57
     ∷ call 1000
     ∷ call 2
     ∷ call 2000
@@ -69,15 +69,18 @@ crowded-listing : listingOf crowded
     ∷ call 0
     ∷ call 2000
     ∷ call 2002
-    ∷ branch 6 62
+    ∷ branch 6 63
+    ∷ branch 7 65
     ∷ call 3
     ∷ call 1
     ∷ schedule 0
     ∷ schedule 1
-    ∷ future 3 64
+    ∷ future 3 67
     ∷ return
     ∷ call 6
     ∷ jump 9
+    ∷ call 7
+    ∷ jump 57
     ∷ call 1001
     ∷ call 0
     ∷ call 2000

@@ -32,7 +32,7 @@ longest = sampling 62 (15 ∷ 15 ∷ 1 ∷ [])
 abbrev long : Tables
 long = sampling 62 (15 ∷ 15 ∷ 1 ∷ 1 ∷ [])
 
--- a program that 1 to 10 pass, of so many instructions by the length rule
+-- a program that 1 to 10 and 24 pass, of so many instructions by the length rule
 abbrev Accepted : Tables → ℕ → Type 0
 Accepted T n = (programVerdict T ≡ 0) × (lengthRule (programOf T) ≡ n)
 

@@ -13,7 +13,9 @@ pub mod Advances
 pub mod Refused
 pub mod Answers
 pub mod Places
+pub mod Gaps
 pub mod Composed
 pub mod Pair
 pub mod Uses
 pub mod Given
+pub mod Insulation

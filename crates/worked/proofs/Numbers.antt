@@ -13,7 +13,7 @@ use Rattle.cells.specs.Limits.{maxRemaining, maxLeft, maxHeld}
 use Rattle.cells.specs.Refusals.{shapeRefused, fieldsRefused, taskPortsRefused, copiesRefused, modePortsRefused, invocationsRefused}
 use Rattle.cells.specs.Refusals.{updatesRefused, switchesRefused, unitsRefused, wholeRefused, codeRefused, windowsRefused, scheduleRefused}
 use Rattle.cells.specs.Refusals.{outsideRefused, lateRefused, timeRefused, overrunRefused, collisionRefused, faultyRefused}
-use Rattle.cells.specs.Refusals.{countRefused, stateRefused}
+use Rattle.cells.specs.Refusals.{countRefused, stateRefused, gapRefused}
 use Rattle.program.specs.Tables.{portsAt, tasksAt, taskPortsAt, driversAt, copiesAt, modesAt, modePortsAt, invocationsAt, updatesAt}
 use Rattle.program.specs.Tables.{switchesAt, windowsAt, scheduleAt, startAt, supplierAt}
 use Rattle.rules.specs.Verdict.{programAnswer, programRules}
@@ -45,12 +45,12 @@ most-else :
     ≡ 256 ∷ 16384 ∷ 4096 ∷ 4096 ∷ 4096 ∷ 4096 ∷ 4096 ∷ []
 most-else = refl
 
--- accepted, then the refusal numbers in the order of 01's table
+-- accepted, then the refusal numbers in the order of 01's table, and the one that a change request adds
 refusal-numbers :
     acceptedNumber ∷ shapeRefused ∷ fieldsRefused ∷ taskPortsRefused ∷ copiesRefused ∷ modePortsRefused ∷ invocationsRefused
     ∷ updatesRefused ∷ switchesRefused ∷ unitsRefused ∷ wholeRefused ∷ codeRefused ∷ windowsRefused ∷ scheduleRefused ∷ outsideRefused
-    ∷ lateRefused ∷ timeRefused ∷ overrunRefused ∷ collisionRefused ∷ faultyRefused ∷ countRefused ∷ stateRefused ∷ []
-    ≡ 0 ∷ 1 ∷ 2 ∷ 3 ∷ 4 ∷ 5 ∷ 6 ∷ 7 ∷ 8 ∷ 9 ∷ 10 ∷ 11 ∷ 12 ∷ 13 ∷ 14 ∷ 15 ∷ 16 ∷ 17 ∷ 18 ∷ 19 ∷ 20 ∷ 21 ∷ []
+    ∷ lateRefused ∷ timeRefused ∷ overrunRefused ∷ collisionRefused ∷ faultyRefused ∷ countRefused ∷ stateRefused ∷ gapRefused ∷ []
+    ≡ 0 ∷ 1 ∷ 2 ∷ 3 ∷ 4 ∷ 5 ∷ 6 ∷ 7 ∷ 8 ∷ 9 ∷ 10 ∷ 11 ∷ 12 ∷ 13 ∷ 14 ∷ 15 ∷ 16 ∷ 17 ∷ 18 ∷ 19 ∷ 20 ∷ 21 ∷ 24 ∷ []
 refusal-numbers = refl
 
 -- the tables as a place names them, in the order of 01's table; then the start mode, and the supplier asked about
@@ -70,19 +70,19 @@ answers-in-numbers :
 answers-in-numbers = refl
 
 -- the order in which each call asks: the program verdict and a fresh state, compiling, windows, a supplier, an advance
-program-order : numbersOf programRules ≡ 1 ∷ 2 ∷ 3 ∷ 4 ∷ 5 ∷ 6 ∷ 7 ∷ 8 ∷ 9 ∷ 10 ∷ []
+program-order : numbersOf programRules ≡ 1 ∷ 2 ∷ 3 ∷ 4 ∷ 5 ∷ 6 ∷ 7 ∷ 8 ∷ 9 ∷ 10 ∷ 24 ∷ []
 program-order = refl
 
-compile-order : numbersOf compileRules ≡ 1 ∷ 2 ∷ 3 ∷ 4 ∷ 5 ∷ 6 ∷ 7 ∷ 8 ∷ 9 ∷ 10 ∷ 11 ∷ []
+compile-order : numbersOf compileRules ≡ 1 ∷ 2 ∷ 3 ∷ 4 ∷ 5 ∷ 6 ∷ 7 ∷ 8 ∷ 9 ∷ 10 ∷ 24 ∷ 11 ∷ []
 compile-order = refl
 
-windows-order : numbersOf windowsVerdictRules ≡ 1 ∷ 2 ∷ 3 ∷ 4 ∷ 5 ∷ 6 ∷ 7 ∷ 8 ∷ 9 ∷ 10 ∷ 11 ∷ 12 ∷ []
+windows-order : numbersOf windowsVerdictRules ≡ 1 ∷ 2 ∷ 3 ∷ 4 ∷ 5 ∷ 6 ∷ 7 ∷ 8 ∷ 9 ∷ 10 ∷ 24 ∷ 11 ∷ 12 ∷ []
 windows-order = refl
 
-supplier-order : numbersOf partRules ≡ 1 ∷ 2 ∷ 3 ∷ 4 ∷ 5 ∷ 6 ∷ 7 ∷ 8 ∷ 9 ∷ 10 ∷ 11 ∷ 12 ∷ 13 ∷ []
+supplier-order : numbersOf partRules ≡ 1 ∷ 2 ∷ 3 ∷ 4 ∷ 5 ∷ 6 ∷ 7 ∷ 8 ∷ 9 ∷ 10 ∷ 24 ∷ 11 ∷ 12 ∷ 13 ∷ []
 supplier-order = refl
 
-advance-order : numbersOf advanceRules ≡ 1 ∷ 2 ∷ 3 ∷ 4 ∷ 5 ∷ 6 ∷ 7 ∷ 8 ∷ 9 ∷ 10 ∷ 11 ∷ 13 ∷ 21 ∷ []
+advance-order : numbersOf advanceRules ≡ 1 ∷ 2 ∷ 3 ∷ 4 ∷ 5 ∷ 6 ∷ 7 ∷ 8 ∷ 9 ∷ 10 ∷ 24 ∷ 11 ∷ 13 ∷ 21 ∷ []
 advance-order = refl
 
 -- F's ports: 0 sensor, 1 actuator, 2 task input, 3 task output, each with its first value 0; its drivers: guard kind 0 and three zeros

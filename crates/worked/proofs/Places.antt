@@ -17,7 +17,7 @@ use Rattle.demands.specs.Composed.{code, joined}
 use Rattle.demands.specs.Places.{NamesRow}
 use Rattle.demands.proofs.Places.{places-exact}
 use Rattle.worked.specs.Computed.{computed}
-use Rattle.worked.specs.Programs.{numbers, ports, alwaysRow, intervalRow, programF, guarded, window}
+use Rattle.worked.specs.Programs.{numbers, ports, alwaysRow, intervalRow, missingRow, programF, guarded, window}
 use Rattle.worked.specs.Programs as programs
 use Rattle.worked.specs.Broken.{twoWindows}
 use Rattle.worked.specs.Systems.{F-system, F-fresh, F-first}
@@ -81,7 +81,8 @@ mode-of-units : programAnswer (tables [] [] [] alwaysRow [] (numbers (6 ∷ 4 �
 unfolding computed
 mode-of-units = refl
 
--- 10 names the switch: a task of frequency 3, and switches of frequencies 1 and 2; the task's row is 0, the switch's 1
+-- 10 names the switch: a task of frequency 3, and switches of frequencies 1 and 2; the task's row is 0, the switch's 1. No switch is for
+-- the missing reading: 24, which is asked after 10
 switch-of-whole : programAnswer (tables (ports 1 sensor) (numbers (0 ∷ 1 ∷ [])) []
     (alwaysRow ++ (intervalRow 0 (pos 0) (pos 5) ++ intervalRow 0 (pos 6) (pos 9))) [] (numbers (12 ∷ [])) []
     (numbers (0 ∷ 3 ∷ 0 ∷ 0 ∷ [])) [] (numbers (0 ∷ 1 ∷ 0 ∷ 1 ∷ 0 ∷ 2 ∷ 0 ∷ 2 ∷ [])) (pos 0)) ≡ atRow 10 9 1
@@ -92,32 +93,36 @@ switch-of-whole = refl
 eighth : {B C D E F G H X Y : Type 0} → X → B ⊎ (C ⊎ (D ⊎ (E ⊎ (F ⊎ (G ⊎ (H ⊎ ((X × Unit {0}) ⊎ Y)))))))
 eighth x = inr (inr (inr (inr (inr (inr (inr (inl (x, tt))))))))
 
+-- two guards of one mode that both hold for 5, and a switch for the missing reading
+abbrev meeting : Tables
+meeting = guarded (intervalRow 0 (pos 0) (pos 5) ∷ intervalRow 0 (pos 5) (pos 9) ∷ missingRow 0 ∷ [])
+
 -- 8 names the later of two switches whose guards meet, and an assessor reads of that answer that row 1 breaks the rule, that row 0 does
 -- not, and that no row of an earlier table does
-guards-meet : programAnswer (guarded (intervalRow 0 (pos 0) (pos 5)) (intervalRow 0 (pos 5) (pos 9))) ≡ atRow 8 9 1
+guards-meet : programAnswer meeting ≡ atRow 8 9 1
 unfolding computed
 guards-meet = refl
 
-pub guards-meet-named : NamesRow programRules (guarded (intervalRow 0 (pos 0) (pos 5)) (intervalRow 0 (pos 5) (pos 9))) 8 9 1
+pub guards-meet-named : NamesRow programRules meeting 8 9 1
 guards-meet-named = places-exact .program _ 8 9 1 (eighth refl) .0 guards-meet
 
 -- compiling it and asking for its fresh state name the same row
-abbrev meeting : Compiling
-meeting = record { tables = guarded (intervalRow 0 (pos 0) (pos 5)) (intervalRow 0 (pos 5) (pos 9)); slice = [] }
+abbrev compiling : Compiling
+compiling = record { tables = meeting; slice = [] }
 
-compiled-meet : compileAnswer meeting .answer ≡ atRow 8 9 1
+compiled-meet : compileAnswer compiling .answer ≡ atRow 8 9 1
 unfolding computed
 compiled-meet = refl
 
-pub compiled-meet-named : NamesRow compileRules meeting 8 9 1
-compiled-meet-named = places-exact .compiling meeting 8 9 1 (eighth refl) .0 compiled-meet
+pub compiled-meet-named : NamesRow compileRules compiling 8 9 1
+compiled-meet-named = places-exact .compiling compiling 8 9 1 (eighth refl) .0 compiled-meet
 
-fresh-meet : freshAnswer (meeting .tables) .answer ≡ atRow 8 9 1
+fresh-meet : freshAnswer meeting .answer ≡ atRow 8 9 1
 unfolding computed
 fresh-meet = refl
 
-pub fresh-meet-named : NamesRow programRules (meeting .tables) 8 9 1
-fresh-meet-named = places-exact .fresh (meeting .tables) 8 9 1 (eighth refl) .0 fresh-meet
+pub fresh-meet-named : NamesRow programRules meeting 8 9 1
+fresh-meet-named = places-exact .fresh meeting 8 9 1 (eighth refl) .0 fresh-meet
 
 -- schedule rows of F's supplier, in numbers: supplier, address, kind, task, timeout
 abbrev part : List ℕ → Asked
@@ -128,12 +133,12 @@ row-of-slice : supplierVerdict (part (0 ∷ 9 ∷ 0 ∷ 1 ∷ 5 ∷ 0 ∷ 9 ∷ 
 unfolding computed
 row-of-slice = refl
 
--- past the first eleven of some rules
-pastEleven : {B C D E F G H I J K L Y : Type 0} → Y → B ⊎ (C ⊎ (D ⊎ (E ⊎ (F ⊎ (G ⊎ (H ⊎ (I ⊎ (J ⊎ (K ⊎ (L ⊎ Y))))))))))
-pastEleven y = inr (inr (inr (inr (inr (inr (inr (inr (inr (inr (inr y))))))))))
+-- past the first twelve of some rules, those of 1 to 10, 24 and 11
+pastTwelve : {B C D E F G H I J K L M Y : Type 0} → Y → B ⊎ (C ⊎ (D ⊎ (E ⊎ (F ⊎ (G ⊎ (H ⊎ (I ⊎ (J ⊎ (K ⊎ (L ⊎ (M ⊎ Y)))))))))))
+pastTwelve y = inr (inr (inr (inr (inr (inr (inr (inr (inr (inr (inr (inr y)))))))))))
 
 pub row-of-slice-named : NamesRow partRules (part (0 ∷ 9 ∷ 0 ∷ 1 ∷ 5 ∷ 0 ∷ 9 ∷ 0 ∷ 0 ∷ 5 ∷ 0 ∷ 15 ∷ 0 ∷ 1 ∷ 5 ∷ 0 ∷ 15 ∷ 0 ∷ 0 ∷ 6 ∷ [])) 13 11 3
-row-of-slice-named = places-exact .supplier _ 13 11 3 (pastEleven (inr (inl (refl, tt)))) .0 row-of-slice
+row-of-slice-named = places-exact .supplier _ 13 11 3 (pastTwelve (inr (inl (refl, tt)))) .0 row-of-slice
 
 -- 12 names the later of two windows that share a tick
 abbrev sharing : Windowed
@@ -144,7 +149,7 @@ unfolding computed
 windows-share = refl
 
 pub windows-share-named : NamesRow windowsVerdictRules sharing 12 10 1
-windows-share-named = places-exact .windows sharing 12 10 1 (pastEleven (inl (refl, tt))) .0 windows-share
+windows-share-named = places-exact .windows sharing 12 10 1 (pastTwelve (inl (refl, tt))) .0 windows-share
 
 -- 13: not sorted counts at the later row; a row of another supplier is named where it stands, before the row that it puts out of order
 not-sorted : supplierVerdict (part (0 ∷ 15 ∷ 0 ∷ 1 ∷ 5 ∷ 0 ∷ 9 ∷ 0 ∷ 1 ∷ 5 ∷ [])) ≡ atRow 13 11 1
@@ -177,7 +182,7 @@ unfolding computed
 row-of-joined = refl
 
 pub row-of-joined-named : NamesRow advanceRules (joinedWith (1 ∷ 9 ∷ 0 ∷ 0 ∷ 5 ∷ [])) 13 11 4
-row-of-joined-named = places-exact .advance _ 13 11 4 (pastEleven (inl (refl, tt))) .0 row-of-joined
+row-of-joined-named = places-exact .advance _ 13 11 4 (pastTwelve (inl (refl, tt))) .0 row-of-joined
 
 -- 13: not sorted by supplier counts at the later row too: a row of supplier 0 behind one of supplier 1
 supplier-behind : advanceAnswer (joinedWith (1 ∷ 9 ∷ 1 ∷ 0 ∷ 5 ∷ 0 ∷ 15 ∷ 1 ∷ 0 ∷ 5 ∷ [])) .answer ≡ atRow 13 11 5
@@ -194,12 +199,13 @@ past-256 : advanceAnswer (joinedWith (idling 257)) .answer ≡ atRow 13 11 260
 unfolding computed
 past-256 = refl
 
--- the line that the shipped program prints, in ASCII: `6 7 3`; 0, 1 and 11 stand alone, 2 and 10 do not
+-- the line that the shipped program prints, in ASCII: `6 7 3`; 0, 1, 11 and 24 stand alone, 2 and 10 do not
 line-6 : answerLine (atRow 6 7 3) ≡ 54 ∷ 32 ∷ 55 ∷ 32 ∷ 51 ∷ 10 ∷ []
 unfolding computed
 line-6 = refl
 
-lines-alone : answerLine (placeless 0) ++ (answerLine (placeless 1) ++ answerLine (placeless 11)) ≡ 48 ∷ 10 ∷ 49 ∷ 10 ∷ 49 ∷ 49 ∷ 10 ∷ []
+lines-alone : answerLine (placeless 0) ++ (answerLine (placeless 1) ++ (answerLine (placeless 11) ++ answerLine (placeless 24)))
+    ≡ 48 ∷ 10 ∷ 49 ∷ 10 ∷ 49 ∷ 49 ∷ 10 ∷ 50 ∷ 52 ∷ 10 ∷ []
 unfolding computed
 lines-alone = refl
 

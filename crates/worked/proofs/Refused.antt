@@ -3,11 +3,11 @@
 use Prim.Native.Nat.{ℕ}
 use mathlib.Core.Path.{_≡_, refl}
 use mathlib.Core.List.{List, [], _∷_}
-use mathlib.Core.Logic.{inr}
 use native.Mathlib.Omega.{arith}
 use lib.ListN.{replicate}
 use Rattle.theory.specs.Rows.{placeless}
 use Rattle.theory.specs.Verdict.{FirstAt, Keep}
+use Rattle.theory.proofs.Verdict.{listed-one}
 use Rattle.machine.specs.declared.State.{State}
 use Rattle.machine.specs.Change.{withLeft}
 use Rattle.machine.specs.Advance.{Advance, advanceRules, advanceAnswer}
@@ -183,4 +183,4 @@ unfolding computed
 lost-placeless = refl
 
 pub F-lost : FirstAt advanceRules lost (placeless 21)
-F-lost = advance-exact lost .judged (placeless 21) (inr refl) .0 lost-placeless
+F-lost = advance-exact lost .judged (placeless 21) (listed-one advanceRules 21 refl) .0 lost-placeless

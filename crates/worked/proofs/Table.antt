@@ -1,4 +1,5 @@
--- Document 01's worked table: every row marked (P), as a theorem about the definitions, with the place that a refusal names.
+-- Document 01's worked table: every row marked (P), as a theorem about the definitions, with the place that a refusal names. The rows with
+-- guards on a sensor have the switch for its missing reading besides, which document 02, K6, asks for.
 use mathlib.Core.Path.{_≡_, refl}
 use mathlib.Core.Bool.{false}
 use mathlib.Core.List.{[], _∷_}
@@ -12,7 +13,7 @@ use Rattle.code.specs.Op.{call, schedule, jump, future, return}
 use Rattle.code.specs.Compile.{listingOf}
 use Rattle.suppliers.specs.Supplier.{atTick, supplierVerdict}
 use Rattle.worked.specs.Computed.{computed}
-use Rattle.worked.specs.Programs.{programF, bare, updated, guarded, intervalRow, switching, window, asked}
+use Rattle.worked.specs.Programs.{programF, bare, updated, guarded, intervalRow, missingRow, switching, window, asked}
 use Rattle.worked.specs.Programs as programs
 
 -- F is accepted, and has 2 units
@@ -82,16 +83,21 @@ frequency-2-period-9 : programAnswer (updated 9 (2 ∷ [])) ≡ atRow 9 5 0
 unfolding computed
 frequency-2-period-9 = refl
 
--- guards 0..5 and 6..9 on one port pass; 0..5 and 5..9: 8; on two ports: 8
-guards-apart : programVerdict (guarded (intervalRow 0 (pos 0) (pos 5)) (intervalRow 0 (pos 6) (pos 9))) ≡ 0
+-- guards 0..5 and 6..9 on one port pass with a switch for its missing reading, and without it: 24; 0..5 and 5..9: 8; on two ports: 8
+guards-apart : programVerdict (guarded (intervalRow 0 (pos 0) (pos 5) ∷ intervalRow 0 (pos 6) (pos 9) ∷ missingRow 0 ∷ [])) ≡ 0
 unfolding computed
 guards-apart = refl
 
-guards-meet : programAnswer (guarded (intervalRow 0 (pos 0) (pos 5)) (intervalRow 0 (pos 5) (pos 9))) ≡ atRow 8 9 1
+guards-leave-gap : programAnswer (guarded (intervalRow 0 (pos 0) (pos 5) ∷ intervalRow 0 (pos 6) (pos 9) ∷ [])) ≡ placeless 24
+unfolding computed
+guards-leave-gap = refl
+
+guards-meet : programAnswer (guarded (intervalRow 0 (pos 0) (pos 5) ∷ intervalRow 0 (pos 5) (pos 9) ∷ missingRow 0 ∷ [])) ≡ atRow 8 9 1
 unfolding computed
 guards-meet = refl
 
-guards-on-two-ports : programAnswer (guarded (intervalRow 0 (pos 0) (pos 5)) (intervalRow 1 (pos 6) (pos 9))) ≡ atRow 8 9 1
+guards-on-two-ports : programAnswer (guarded (intervalRow 0 (pos 0) (pos 5) ∷ intervalRow 1 (pos 6) (pos 9) ∷ missingRow 0 ∷ []))
+    ≡ atRow 8 9 1
 unfolding computed
 guards-on-two-ports = refl
 
@@ -100,7 +106,8 @@ no-reading-outside : inside (negsuc 2147483646) noReading (pos 2147483647) ≡ f
 unfolding computed
 no-reading-outside = refl
 
-low-no-reading-high-0 : programAnswer (guarded (intervalRow 0 noReading (pos 0)) (intervalRow 0 (pos 6) (pos 9))) ≡ atRow 2 3 0
+low-no-reading-high-0 : programAnswer (guarded (intervalRow 0 noReading (pos 0) ∷ intervalRow 0 (pos 6) (pos 9) ∷ missingRow 0 ∷ []))
+    ≡ atRow 2 3 0
 unfolding computed
 low-no-reading-high-0 = refl
 

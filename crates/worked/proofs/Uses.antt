@@ -4,18 +4,20 @@ use Prim.Native.Nat.{ℕ, zero, suc, _≤_, _<_}
 use mathlib.Core.Path.{_≡_, refl, sym, ap, subst, _∙_}
 use mathlib.Core.Bool.{true}
 use mathlib.Core.List.{List, [], _∷_}
-use mathlib.Core.Logic.{inl, inr, ⊎-elim}
+use mathlib.Core.Logic.{inl, ⊎-elim}
 use native.Mathlib.Omega.{arith}
 use lib.IntN.{ℤ, pos}
 use lib.ListN.{length, replicate}
 use Rattle.theory.specs.Lists.{member}
+use Rattle.theory.specs.Verdict.{OneOf}
 use Rattle.theory.proofs.Bools.{clash}
 use Rattle.theory.proofs.Members.{member-says}
+use Rattle.theory.proofs.Verdict.{listed-one}
 use Rattle.cells.specs.Cell.{numAt}
 use Rattle.cells.specs.Limits.{maxPorts, maxTasks}
 use Rattle.program.specs.Ports.{valueOf}
 use Rattle.machine.specs.declared.State.{State}
-use Rattle.machine.specs.Advance.{Advance, Lent, freshAnswer, advanceAnswer}
+use Rattle.machine.specs.Advance.{Advance, Lent, freshAnswer, advanceRules, advanceAnswer}
 use Rattle.machine.specs.Change.{withLeft}
 use Rattle.machine.specs.Comes.{program}
 use Rattle.machine.specs.Uses.{Reads, Releases, Completes, lending}
@@ -157,4 +159,6 @@ far-results = refl
 
 pub F-far-uses : (X : Lent) → length (X .readings) ≡ maxPorts → length (X .results) ≡ maxPorts → length (X .times) ≡ maxTasks
     → advanceAnswer far ≡ advanceAnswer (lending far X)
-F-far-uses X r s t = refused-uses-none far X (inr far-refused) (record { readings = sym r; results = far-results ∙ sym s; times = sym t })
+F-far-uses X r s t =
+    refused-uses-none far X (subst (OneOf advanceRules) (sym far-refused) (listed-one advanceRules 21 refl))
+    (record { readings = sym r; results = far-results ∙ sym s; times = sym t })

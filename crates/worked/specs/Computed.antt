@@ -11,6 +11,7 @@ use Rattle.rules.specs.Fields.{invocationBad, updateBad, switchBad, startBad, f
 use Rattle.rules.specs.Modes.{ownPort, outputWith, inputWith, portWith, sourceWith, destinationWith, someOutput, someInput, somePort}
 use Rattle.rules.specs.Modes.{someSource, someDestination, unreadable, invocationClash, invocationWrong, invocationsBad, updateClash}
 use Rattle.rules.specs.Modes.{updateWrong, updatesBad, switchClash, switchWrong, switchesBad}
+use Rattle.rules.specs.Missing.{forMissing, gapAt, gapBad}
 use Rattle.rules.specs.Shape.{badSlice, badLength, shapeBad}
 use Rattle.rules.specs.Timing.{unitsWrong, unitsBad, notWhole, wholeWrong, wholeBad}
 use Rattle.rules.specs.Verdict.{programVerdict, programAnswer}
@@ -24,5 +25,5 @@ use Rattle.machine.specs.Advance.{freshAnswer, advanceShapeBad, stateOut, advan
 use Rattle.text.specs.Shipped.{answerLine, isLarger, shipped}
 
 unfoldable pub computed : Unit {0}
-unfolding any firstFrom first nameOf numAt nameAt wordAt inside isMissing isValue isKind isTaskPort modePortAt isInput isOutput isModePort copiesFrom copiesTo isSource isDestination misses rowMisses isMultiple units samePort taskPortClash taskPortsBad copyClash copiesBad modePortClash modePortsBad inRange portBad taskBad taskPortBad alwaysFits intervalFits driverBad copyBad modeBad modePortBad invocationBad updateBad switchBad startBad fieldsBad ownPort outputWith inputWith portWith sourceWith destinationWith someOutput someInput somePort someSource someDestination unreadable invocationClash invocationWrong invocationsBad updateClash updateWrong updatesBad switchClash switchWrong switchesBad badSlice badLength shapeBad unitsWrong unitsBad notWhole wholeWrong wholeBad programVerdict programAnswer listingOf codeLong sliceShort compileVerdict listing windowHas inWindow shareTick dispatchFits idleFits precedes rowWrong partBad rowCount pastPart joinedBad partShapeBad partVerdict partAnswer supplierVerdict windowWrong windowsBad windowsShapeBad windowsVerdict windowsAnswer freshAnswer advanceShapeBad stateOut advanceVerdict advanceAnswer answerLine isLarger shipped
+unfolding any firstFrom first nameOf numAt nameAt wordAt inside isMissing isValue isKind isTaskPort modePortAt isInput isOutput isModePort copiesFrom copiesTo isSource isDestination misses rowMisses isMultiple units samePort taskPortClash taskPortsBad copyClash copiesBad modePortClash modePortsBad inRange portBad taskBad taskPortBad alwaysFits intervalFits driverBad copyBad modeBad modePortBad invocationBad updateBad switchBad startBad fieldsBad ownPort outputWith inputWith portWith sourceWith destinationWith someOutput someInput somePort someSource someDestination unreadable invocationClash invocationWrong invocationsBad updateClash updateWrong updatesBad switchClash switchWrong switchesBad forMissing gapAt gapBad badSlice badLength shapeBad unitsWrong unitsBad notWhole wholeWrong wholeBad programVerdict programAnswer listingOf codeLong sliceShort compileVerdict listing windowHas inWindow shareTick dispatchFits idleFits precedes rowWrong partBad rowCount pastPart joinedBad partShapeBad partVerdict partAnswer supplierVerdict windowWrong windowsBad windowsShapeBad windowsVerdict windowsAnswer freshAnswer advanceShapeBad stateOut advanceVerdict advanceAnswer answerLine isLarger shipped
 computed = tt

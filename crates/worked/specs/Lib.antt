@@ -2,6 +2,8 @@
 pub mod Computed
 pub mod Programs
 pub mod Systems
+pub mod Example
+pub mod Insulation
 pub mod Blocks
 pub mod Broken
 pub mod Crowded

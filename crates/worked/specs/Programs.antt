@@ -2,6 +2,7 @@
 use Prim.Native.Nat.{ℕ, zero, suc}
 use mathlib.Core.List.{List, [], _∷_, _++_, map}
 use lib.IntN.{ℤ, pos}
+use Rattle.readings.specs.Reading.{noReading}
 use Rattle.program.specs.Tables.{Tables, tables, sensor, actuator, input, output, kindAlways, kindInterval}
 use Rattle.suppliers.specs.Supplier.{Asked}
 use Rattle.text.specs.Decimal.{newline, decimal}
@@ -15,12 +16,16 @@ abbrev pub ports : ℕ → ℕ → List ℤ
 ports zero kind = []
 ports (suc n) kind = pos kind ∷ pos 0 ∷ ports n kind
 
--- the row of a driver that copies always, and that of one that copies where a port is in an interval
+-- the row of a driver that copies always, that of one that copies where a port is in an interval, and that of one that copies where the
+-- reading of a sensor is missing
 abbrev pub alwaysRow : List ℤ
 alwaysRow = pos kindAlways ∷ pos 0 ∷ pos 0 ∷ pos 0 ∷ []
 
 abbrev pub intervalRow : ℕ → ℤ → ℤ → List ℤ
 intervalRow port low high = pos kindInterval ∷ pos port ∷ low ∷ high ∷ []
+
+abbrev pub missingRow : ℕ → List ℤ
+missingRow port = intervalRow port noReading noReading
 
 -- Program F, with the worst-case times of t1 and t2, both of supplier 0.
 -- Ports: 0 s, 1 a, 2..6 i1..i5, 7..11 o1..o5
@@ -52,10 +57,18 @@ abbrev pub updated : ℕ → List ℕ → Tables
 updated period frequencies =
     tables [] [] [] alwaysRow [] (numbers (period ∷ [])) [] [] (updateRows frequencies) [] (pos 0)
 
--- a program of two sensors, and a mode that switches to itself by drivers with these two rows
-abbrev pub guarded : List ℤ → List ℤ → Tables
-guarded one other =
-    tables (ports 2 sensor) [] [] (one ++ other) [] (numbers (10 ∷ [])) [] [] [] (numbers (0 ∷ 1 ∷ 0 ∷ 0 ∷ 0 ∷ 1 ∷ 0 ∷ 1 ∷ [])) (pos 0)
+-- drivers with these rows; switches of mode 0 to itself, one for each of them, from driver d on
+abbrev pub driverRows : List (List ℤ) → List ℤ
+driverRows [] = []
+driverRows (row ∷ rows) = row ++ driverRows rows
+
+abbrev pub selfSwitches : List (List ℤ) → ℕ → List ℤ
+selfSwitches [] d = []
+selfSwitches (row ∷ rows) d = pos 0 ∷ pos 1 ∷ pos 0 ∷ pos d ∷ selfSwitches rows (suc d)
+
+-- a program of two sensors, and a mode that switches to itself by drivers with these rows
+abbrev pub guarded : List (List ℤ) → Tables
+guarded rows = tables (ports 2 sensor) [] [] (driverRows rows) [] (numbers (10 ∷ [])) [] [] [] (selfSwitches rows 0) (pos 0)
 
 -- a program of one mode of period 12, with a task and a switch of these frequencies
 abbrev pub switching : ℕ → ℕ → Tables

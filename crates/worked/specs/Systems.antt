@@ -21,7 +21,8 @@ use Rattle.machine.specs.Schedules.{Who, nobody, running}
 use Rattle.machine.specs.Advance.{Advance, freshAnswer, ready}
 use Rattle.demands.specs.Composed.{System, joined, code, advanced}
 use Rattle.demands.specs.Supplied.{lentTo}
-use Rattle.worked.specs.Programs.{numbers, ports, alwaysRow, intervalRow, programF, schedule, window, asked}
+use Rattle.worked.specs.Programs.{numbers, ports, alwaysRow, intervalRow, missingRow, programF, schedule, window}
+use Rattle.worked.specs.Programs.{asked}
 
 -- the parts of a system of two suppliers: these for suppliers 0 and 1, no rows for the others
 abbrev pub partsOf : List ℤ → List ℤ → ℕ → List ℤ
@@ -42,23 +43,23 @@ F-asked = asked 6 (F-system .windows) (F-system .parts 0)
 
 -- The monitor. Ports: 0 the measured resistance, 1 the relay, 2 and 3 the tasks' inputs, 4 their output.
 -- Mode 0, period 4: task 0 of supplier 0, twice; a missing reading switches to mode 1.
--- Mode 1, period 2: task 1 of supplier 1, once, with this worst-case time; a reading 0..100 switches back.
+-- Mode 1, period 2: task 1 of supplier 1, once, with this worst-case time; a reading 0..100 switches back, a missing one to mode 1 again.
 abbrev pub monitor : ℕ → Tables
 monitor worst1 =
     tables
     (ports 1 sensor ++ (ports 1 actuator ++ (ports 2 input ++ ports 1 output)))
     (numbers (0 ∷ 1 ∷ 1 ∷ worst1 ∷ []))
     (numbers (0 ∷ 2 ∷ 0 ∷ 4 ∷ 1 ∷ 3 ∷ 1 ∷ 4 ∷ []))
-    (alwaysRow ++ (alwaysRow ++ (alwaysRow ++ (intervalRow 0 noReading noReading ++ intervalRow 0 (pos 0) (pos 100)))))
+    (alwaysRow ++ (alwaysRow ++ (alwaysRow ++ (missingRow 0 ++ intervalRow 0 (pos 0) (pos 100)))))
     (numbers (0 ∷ 0 ∷ 2 ∷ 1 ∷ 0 ∷ 3 ∷ 2 ∷ 4 ∷ 1 ∷ 3 ∷ 4 ∷ 4 ∷ 4 ∷ 4 ∷ 4 ∷ []))
     (numbers (4 ∷ 2 ∷ []))
     (numbers (0 ∷ 4 ∷ 1 ∷ 4 ∷ []))
     (numbers (0 ∷ 2 ∷ 0 ∷ 0 ∷ 1 ∷ 1 ∷ 1 ∷ 1 ∷ []))
     (numbers (0 ∷ 1 ∷ 2 ∷ 1 ∷ 1 ∷ 2 ∷ []))
-    (numbers (0 ∷ 1 ∷ 1 ∷ 3 ∷ 1 ∷ 1 ∷ 0 ∷ 4 ∷ []))
+    (numbers (0 ∷ 1 ∷ 1 ∷ 3 ∷ 1 ∷ 1 ∷ 0 ∷ 4 ∷ 1 ∷ 1 ∷ 1 ∷ 3 ∷ []))
     (pos 0)
 
--- The monitor's blocks are at 7 and 15 in mode 0 and at 23 in mode 1; supplier 1's window goes to this tick.
+-- The monitor's blocks are at 7 and 15 in mode 0 and at 24 in mode 1; supplier 1's window goes to this tick.
 abbrev pub monitorWindows : ℕ → List ℤ
 monitorWindows to1 = numbers (0 ∷ 0 ∷ 0 ∷ 4 ∷ 1 ∷ 1 ∷ 0 ∷ to1 ∷ [])
 
@@ -66,7 +67,7 @@ abbrev pub monitor-system : System
 monitor-system = record {
   tables = monitor 2;
   windows = monitorWindows 2;
-  parts = partsOf (numbers (0 ∷ 7 ∷ 0 ∷ 0 ∷ 2 ∷ 0 ∷ 15 ∷ 0 ∷ 0 ∷ 2 ∷ [])) (numbers (1 ∷ 23 ∷ 0 ∷ 1 ∷ 2 ∷ []));
+  parts = partsOf (numbers (0 ∷ 7 ∷ 0 ∷ 0 ∷ 2 ∷ 0 ∷ 15 ∷ 0 ∷ 0 ∷ 2 ∷ [])) (numbers (1 ∷ 24 ∷ 0 ∷ 1 ∷ 2 ∷ []));
   slice = room;
 }
 
