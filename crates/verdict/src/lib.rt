@@ -104,14 +104,7 @@ fn by_number(tables: &[&[i32]; Program::TABLES], program: Program, number: usize
             let row = whole::first_not_whole(tables[tables::INVOCATIONS], tables[tables::SWITCHES]);
             named(tables, number, tables::SWITCHES, row)
         }
-        refusals::GAP => {
-            let gap = rules_24::has_gap(
-                tables[tables::PORTS],
-                tables[tables::DRIVERS],
-                tables[tables::SWITCHES],
-            );
-            answers::where_applies(number, gap)
-        }
+        refusals::GAP => answers::where_applies(number, rules_24::has_gap(tables)),
         _ => answers::accepted(),
     }
 }

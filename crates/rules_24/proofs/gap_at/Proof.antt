@@ -5,11 +5,17 @@ use mathlib.Core.Bool.{Bool, true, false, not, _&&_}
 use lib.Dec.{eqb}
 use borrow.Author.Needs.{needs}
 use Rattle.theory.specs.Search.{any}
-use Rattle.program.specs.Tables.{Tables, sensor, guardKind, guardPort, kindInterval, switchCount, switchMode, switchDriver}
+use Rattle.program.specs.Tables.{Tables, tablesIn, sensor, guardKind, guardPort, kindInterval, switchCount, switchMode, switchDriver}
 use Rattle.program.specs.Sets.{isKind}
 use Rattle.rules.specs.Missing.{forMissing, gapAt}
 use Rattle.rules_24.proofs.gap_at.Statement.{statement}
 use Rattle.rules_24.proofs.gap_at.Tie as tie
+
+element-copy-out-drivers : tie.Need-element-copy-out-drivers
+element-copy-out-drivers c = search needs
+
+element-copy-out-switches : tie.Need-element-copy-out-switches
+element-copy-out-switches c = search needs
 
 mode-requires : tie.Need-mode-requires
 mode-requires c κs = search needs
@@ -22,6 +28,9 @@ port-requires c κs = search needs
 
 is-interval-requires : tie.Need-is-interval-requires
 is-interval-requires c κs = search needs
+
+element-copy-out-is-kind : tie.Need-element-copy-out-is-kind
+element-copy-out-is-kind c = search needs
 
 is-kind-requires : tie.Need-is-kind-requires
 is-kind-requires c κs = search needs
@@ -36,40 +45,43 @@ unfolding gapAt
 asked T i m d p b u v w e = rw (sym e, w, v, u) refl
 
 returns : tie.Need-returns
-returns c T e f g =
+returns c start =
     let k = c .before .before in
-    let p = k .before .before in
+    let v = k .before .before in
+    let p = v .before in
     let d = p .before in
     let m = d .before in
-    let mode : m .mode .result .0 ≡ switchMode T (m .before .args .i) = simp (m .mode .ensures, g) in
-    let driver : d .driver .result .0 ≡ switchDriver T (m .before .args .i) = simp (d .driver .ensures, g) in
-    let port : p .port .result .0 ≡ guardPort T (d .driver .result .0) = simp (p .port .ensures, f) in
-    ap not (c .has-for-missing .ensures T f g)
+    let a = m .before .before .before .args in
+    let T = tablesIn (a .tables .now) start in
+    ap not (c .has-for-missing .ensures T refl refl)
     ∙ sym
-    (asked T (m .before .args .i) (m .mode .result .0) (d .driver .result .0) (p .port .result .0) true mode driver port
-    (sym (ap₂ _&&_ (k .before .is-interval .ensures T f) (k .is-kind .ensures T e)) ∙ c .before .if1 .taken))
+    (asked T (a .i) (m .mode .result .0) (d .driver .result .0) (p .port .result .0) true (m .mode .ensures) (d .driver .ensures)
+    (p .port .ensures) (sym (ap₂ _&&_ (v .is-interval .ensures T refl) (k .is-kind .ensures T refl)) ∙ c .before .if1 .taken))
 
 returns-2 : tie.Need-returns-2
-returns-2 c T e f g =
+returns-2 c start =
     let k = c .before in
-    let p = k .before .before in
+    let v = k .before .before in
+    let p = v .before in
     let d = p .before in
     let m = d .before in
-    let mode : m .mode .result .0 ≡ switchMode T (m .before .args .i) = simp (m .mode .ensures, g) in
-    let driver : d .driver .result .0 ≡ switchDriver T (m .before .args .i) = simp (d .driver .ensures, g) in
-    let port : p .port .result .0 ≡ guardPort T (d .driver .result .0) = simp (p .port .ensures, f) in
+    let a = m .before .before .before .args in
+    let T = tablesIn (a .tables .now) start in
     sym
-    (asked T (m .before .args .i) (m .mode .result .0) (d .driver .result .0) (p .port .result .0) false mode driver port
-    (sym (ap₂ _&&_ (k .before .is-interval .ensures T f) (k .is-kind .ensures T e)) ∙ c .if1 .left))
+    (asked T (a .i) (m .mode .result .0) (d .driver .result .0) (p .port .result .0) false (m .mode .ensures) (d .driver .ensures)
+    (p .port .ensures) (sym (ap₂ _&&_ (v .is-interval .ensures T refl) (k .is-kind .ensures T refl)) ∙ c .if1 .left))
 
 pub gap-at-spec : {M : Type 1} → statement M
 gap-at-spec =
     tie.close
     (tie.spec
+    element-copy-out-drivers
+    element-copy-out-switches
     mode-requires
     driver-requires
     port-requires
     is-interval-requires
+    element-copy-out-is-kind
     is-kind-requires
     has-for-missing-requires
     returns

@@ -99,15 +99,6 @@ first-not-whole-requires c κs = search needs
 named-requires-8 : tie.Need-named-requires-8
 named-requires-8 c κs = search needs
 
-element-copy-out-has-gap : tie.Need-element-copy-out-has-gap
-element-copy-out-has-gap c = search needs
-
-element-copy-out-has-gap-2 : tie.Need-element-copy-out-has-gap-2
-element-copy-out-has-gap-2 c = search needs
-
-element-copy-out-has-gap-3 : tie.Need-element-copy-out-has-gap-3
-element-copy-out-has-gap-3 c = search needs
-
 has-gap-requires : tie.Need-has-gap-requires
 has-gap-requires c κs = search needs
 
@@ -184,12 +175,12 @@ returns-9 c =
 
 returns-10 : tie.Need-returns-10
 returns-10 c =
-    let m = c .before .before .before .before .before in
+    let m = c .before .before in
     let T = lent (m .before) in
     answer-as tableRefusals T (m .match .keys10)
     (c .where-applies .ensures
     ∙ ap₂ (λ (n : ℕ) (b : Bool). cond b (placeless n) (placeless acceptedNumber)) (m .match .keys10)
-    (c .before .has-gap .ensures T refl refl refl))
+    (c .before .has-gap .ensures (m .before .args .program .start)))
 
 returns-11 : tie.Need-returns-11
 returns-11 c =
@@ -226,9 +217,6 @@ by-number-spec =
     element-copy-out-first-not-whole-2
     first-not-whole-requires
     named-requires-8
-    element-copy-out-has-gap
-    element-copy-out-has-gap-2
-    element-copy-out-has-gap-3
     has-gap-requires
     where-applies-requires
     accepted-requires
