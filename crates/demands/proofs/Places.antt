@@ -1,7 +1,7 @@
 -- A refusal says which row: the answer of the first broken rule with its place (`FirstAt`) names row r of table t exactly where that is the
 -- row to name (`NamesRow`). Assumes of a list of rules that no number stands in it twice, and that none is 0.
 use Prim.Native.Nat.{ℕ}
-use mathlib.Core.Path.{_≡_, refl, sym, subst, _∙_}
+use mathlib.Core.Path.{_≡_, sym, subst, _∙_}
 use mathlib.Core.List.{List, [], _∷_}
 use mathlib.Core.Logic.{_⊎_, inl, inr, ⊎-elim, _↔_, Iff·trans}
 use native.Mathlib.Omega.{arith}
@@ -11,8 +11,8 @@ use Rattle.theory.proofs.Verdict.{Numbered, first-number}
 use Rattle.rules.specs.Verdict.{programRules}
 use Rattle.code.specs.Compile.{compileRules}
 use Rattle.suppliers.specs.Windows.{windowsVerdictRules}
-use Rattle.suppliers.specs.Supplier.{Asked, partRules}
-use Rattle.machine.specs.Advance.{Advance, advanceRules}
+use Rattle.suppliers.specs.Supplier.{partRules}
+use Rattle.machine.specs.Advance.{advanceRules}
 use Rattle.demands.specs.Places.{SomeRows, HasRows, RowBreaks, NamesRow, PlacesExact}
 use Rattle.demands.proofs.Verdict.{verdict-exact}
 use Rattle.demands.proofs.Calls.{compile-exact, windows-exact, fresh-exact, advance-exact}

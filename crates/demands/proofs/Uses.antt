@@ -1,5 +1,5 @@
 -- What an advance uses of what it is lent, of the definitions.
-use mathlib.Core.Path.{_≡_, refl}
+use mathlib.Core.Path.{refl}
 use native.Mathlib.Omega.{arith}
 use Rattle.machine.specs.Advance.{advanceAnswer}
 use Rattle.machine.proofs.Uses as uses

@@ -324,20 +324,6 @@ module _ {A : Type 0} where
       go true (suc n) d ih = refl
       go false n d ih = ih
 
-  -- the number of each refusal of a list has the property N
-  abbrev pub Among : (ℕ → Type 0) → List (Refusal A) → Type 0
-  Among N [] = Unit {0}
-  Among N (r ∷ rs) = N (r .number) × Among N rs
-
-  -- the verdict has the property N where every refusal's number and the number of acceptance have it
-  pub verdict-among : (N : ℕ → Type 0) → N acceptedNumber → (rs : List (Refusal A)) (a : A) → Among N rs → N (verdict rs a)
-  verdict-among N z [] a w = z
-  verdict-among N z (r ∷ rs) a w = go (r .applies a) (verdict-among N z rs a (w .1))
-    where
-      go : (b : Bool) → N (verdict rs a) → N (orElse b (r .number) (verdict rs a))
-      go true ih = w .0
-      go false ih = ih
-
   -- where no test of the first list applies, the second list decides
   pub verdict-skip : (rs qs : List (Refusal A)) (a : A) → Clear rs a → verdict (rs ++ qs) a ≡ verdict qs a
   verdict-skip [] qs a c = refl
