@@ -17,6 +17,6 @@ windowed T W = record { tables = T; windows = W }
 abbrev pub asked : Tables → List ℤ → List ℤ → ℤ → Asked
 asked T W S s = record { tables = T; windows = W; part = S; supplier = s }
 
--- the answer of numbers 2 to 12 on tables and windows that have their shape: 2 to 11 of the tables, then 12
+-- the answer of numbers 2 to 12 and 24 on tables and windows that have their shape: 2 to 11 and 24 of the tables, then 12
 unfoldable pub shapedAnswer : Windowed → Answer
 shapedAnswer L = orNext (tablesAndCodeAnswer (L .tables)) (rowsAnswer windowsRefused (windowTests L))

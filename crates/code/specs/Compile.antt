@@ -36,12 +36,12 @@ CodeFits T = length (listingOf T) ≤ maxCode
 abbrev pub longRule : Rule Tables
 longRule = unplacedRule codeRefused CodeFits
 
--- the refusals of a call that is lent the tables and more: its own 1, then 2 to 11 of the tables, then its own numbers
+-- the refusals of a call that is lent the tables and more: its own 1, then 2 to 11 and 24 of the tables, then its own numbers
 abbrev pub callRefusals : {A : Type 0} → (A → Tables) → (A → Bool) → List (Refusal A) → List (Refusal A)
 callRefusals tables shape own =
     unplaced shapeRefused shape ∷ (map (within tables) (tableRefusals ++ (longRefusal ∷ [])) ++ own)
 
--- the rules of a call that is lent the tables and more: its own 1, then 2 to 11 of the tables, then its own rules
+-- the rules of a call that is lent the tables and more: its own 1, then 2 to 11 and 24 of the tables, then its own rules
 abbrev pub callRules : {A : Type 0} → (A → Tables) → (A → Type 0) → List (Rule A) → List (Rule A)
 callRules tables shape own =
     unplacedRule shapeRefused shape ∷ (map (holding tables) (tableRules ++ (longRule ∷ [])) ++ own)

@@ -36,11 +36,11 @@ use Rattle.composed.proofs.Within.{related-fits}
 code-whole : (T : Tables) → CodeFits T → WholeRows wordsEach maxCode (emit (listingOf T))
 code-whole T f = (length (listingOf T), emit-length (listingOf T) ∙ mul-comm wordsEach (length (listingOf T)), f)
 
--- what an advance asks of the tables: numbers 2 to 11
+-- what an advance asks of the tables: numbers 2 to 11 and 24
 abbrev asked : List (Refusal Advance)
 asked = map (within (λ (L : Advance). L .tables)) (tableRefusals ++ (longRefusal ∷ []))
 
--- numbers 2 to 11 do not apply to an advance of an accepted program whose code fits
+-- numbers 2 to 11 and 24 do not apply to an advance of an accepted program whose code fits
 asked-none : (L : Advance) → programVerdict (L .tables) ≡ acceptedNumber → CodeFits (L .tables) → verdict asked L ≡ acceptedNumber
 unfolding codeLong
 asked-none L a f =

@@ -1,10 +1,11 @@
--- A missing reading is taken: in an accepted program by exactly one switch of every mode that looks at its sensor, and in a composed run
--- at every instant at which that switch is due. The statements' premises are that the program, or the system, is accepted, and that the
--- ticks are suited.
+-- A missing reading satisfies exactly one switch of every mode of an accepted program that looks at its sensor, and in a composed run it
+-- takes that switch at every instant at which it is due. The statements' premises are that the program, or the system, is accepted, and
+-- that the ticks are suited.
 use Prim.Native.Nat.{ℕ, suc, _+_, _/_, _%_, _<_}
 use mathlib.Core.Path.{_≡_, sym, ap, ap₂, _∙_}
 use mathlib.Core.Logic.{inl, inr}
 use native.Mathlib.Omega.{arith}
+use lib.IntN.{ℤ}
 use Rattle.theory.specs.Verdict.{Keep}
 use Rattle.program.specs.Tables.{Tables, switchTarget, modePeriod}
 use Rattle.program.specs.Units.{units}
@@ -16,19 +17,19 @@ use Rattle.rules.proofs.Verdict.{program-accepted}
 use Rattle.rules.proofs.Verdict as verdict
 use Rattle.code.specs.Listing.{futureAddress}
 use Rattle.giotto.specs.Instant.{Configuration, Function, results}
-use Rattle.giotto.specs.Successor.{Successor}
+use Rattle.giotto.specs.Successor.{Changes, Successor}
 use Rattle.giotto.proofs.Execution.{execution-succeeds}
 use Rattle.giotto.proofs.Taken.{sensor-read, is-taken}
 use Rattle.machine.specs.Advance.{Lent}
 use Rattle.composed.specs.Related.{Related}
 use Rattle.demands.specs.Composed.{System, joined, readings, stateAt, configurationAt}
-use Rattle.demands.specs.Missing.{MissingTaken, GapExact, Enters, MissingEnters}
+use Rattle.demands.specs.Missing.{MissingSatisfies, GapExact, Enters, MissingTakes}
 use Rattle.demands.proofs.Sound.{accepted-sound}
 use Rattle.demands.proofs.Composed.{related-always}
 
 -- a missing reading satisfies the guard of exactly one switch
-pub missing-taken : MissingTaken
-missing-taken T a = verdict.missing-met T a
+pub missing-satisfies : MissingSatisfies
+missing-satisfies T a = verdict.missing-met T a
 
 -- 24 is given exactly where that does not hold
 pub gap-exact : GapExact
@@ -73,12 +74,19 @@ module _ (Y : System) (F : Function) (lents : ℕ → Lent) (n m : ℕ) where
       stamp : after .time ≡ n + ticksOf entered
       stamp = t ∙ sym (ap (λ (M : Mode). n + ticksOf M) row)
 
--- a missing reading is taken at an instant at which the switch is due
-pub missing-enters : MissingEnters
-missing-enters Y a F lents n f i p s w d e =
-    begun Y F lents n (switchTarget T i) (taken .0) (S .next-unit ∙ ap (λ (u : ℕ). suc u % units T (after Y F lents n i .mode)) (taken .1))
-    (S .time-stamp ∙ ap (λ (x : ℕ). x + modePeriod T (after Y F lents n i .mode) / units T (after Y F lents n i .mode)) (d .instant))
-    (related-always Y a F lents (suc n) (λ k l. f k (omega arith)))
+-- a missing reading takes the switch at an instant at which it is due
+pub missing-takes : MissingTakes
+missing-takes Y a F lents n f i p s w d e =
+    record {
+      successor = S;
+      changes = taken .0;
+      by-row = taken .1;
+      enters =
+          begun Y F lents n (switchTarget T i) (taken .0 .to-target ∙ ap (switchTarget T) (taken .1))
+          (S .next-unit ∙ ap (λ (u : ℕ). suc u % units T (C′ .mode)) (taken .0 .to-unit-0))
+          (S .time-stamp ∙ ap (λ (x : ℕ). x + modePeriod T (C′ .mode) / units T (C′ .mode)) (d .instant))
+          (related-always Y a F lents (suc n) (λ k l. f k (omega arith)));
+    }
   where
     T : Tables
     T = Y .tables
@@ -92,15 +100,18 @@ missing-enters Y a F lents n f i p s w d e =
     C′ : Configuration
     C′ = configurationAt Y F lents (suc n)
 
-    S : Successor T (results (programOf T) F (C .ports)) (valueOf (lents n .readings)) C C′
+    result : ℕ → ℕ → ℤ
+    result = results (programOf T) F (C .ports)
+
+    S : Successor T result (valueOf (lents n .readings)) C C′
     S = execution-succeeds T K F (readings Y F lents) n (d .instant)
 
-    taken : (C′ .mode ≡ switchTarget T i) × (S .unit ≡ 0)
+    taken : (c : Changes T C (S .after-sensors) (S .after-switch) (C′ .mode) (S .unit)) × (c .row ≡ i)
     taken =
-        is-taken T K (results (programOf T) F (C .ports)) (valueOf (lents n .readings)) C C′ S i
+        is-taken T K result (valueOf (lents n .readings)) C C′ S i
         (record {
           in-table = d .of-mode .in-table;
           of-mode = d .of-mode .of-mode;
           is-due = d .is-due;
-          guard = w (S .after-sensors) (sensor-read T K (results (programOf T) F (C .ports)) (valueOf (lents n .readings)) C C′ S p s ∙ e);
+          guard = w (S .after-sensors) (sensor-read T K result (valueOf (lents n .readings)) C C′ S p s ∙ e);
         })

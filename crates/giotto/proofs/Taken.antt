@@ -1,11 +1,10 @@
--- A switch that is due, and whose guard holds for the values that an instant has read, is the one that is taken: its target is entered at
--- unit 0. Assumes the program's rules.
+-- A switch that is due, and whose guard holds for the values that an instant has read, is the one that is taken. Assumes the program's rules.
 use Prim.Native.Nat.{ℕ}
-use mathlib.Core.Path.{_≡_, refl, ap, _∙_}
+use mathlib.Core.Path.{_≡_, refl}
 use mathlib.Core.Logic.{_⊎_, inl, inr}
 use lib.IntN.{ℤ}
 use Rattle.theory.specs.Verdict.{Keep}
-use Rattle.program.specs.Tables.{Tables, switchTarget}
+use Rattle.program.specs.Tables.{Tables}
 use Rattle.program.specs.Sets.{Sensor}
 use Rattle.rules.specs.Verdict.{programRules}
 use Rattle.giotto.specs.Instant.{Configuration}
@@ -18,13 +17,12 @@ module _ (T : Tables) (K : Keep programRules T) (result : ℕ → ℕ → ℤ) (
   pub sensor-read : (p : ℕ) → Sensor T p → S .after-sensors p ≡ readings p
   sensor-read p s = S .step-3 .written p (readings p) (s, refl)
 
-  -- the enabled switch is taken
-  pub is-taken : (i : ℕ) → SwitchEnabled T (C .mode) (C .unit) (S .after-sensors) i → (C′ .mode ≡ switchTarget T i) × (S .unit ≡ 0)
+  -- steps 4 to 6 change the mode by the enabled switch
+  pub is-taken : (i : ℕ) → SwitchEnabled T (C .mode) (C .unit) (S .after-sensors) i
+      → (c : Changes T C (S .after-sensors) (S .after-switch) (C′ .mode) (S .unit)) × (c .row ≡ i)
   is-taken i e = go (S .step-4-to-6)
     where
       go : Stays T C (S .after-sensors) (S .after-switch) (C′ .mode) (S .unit) ⊎ Changes T C (S .after-sensors) (S .after-switch) (C′ .mode) (S .unit)
-          → (C′ .mode ≡ switchTarget T i) × (S .unit ≡ 0)
+          → (c : Changes T C (S .after-sensors) (S .after-switch) (C′ .mode) (S .unit)) × (c .row ≡ i)
       go (inl s) = absurd (s .none-enabled i e)
-      go (inr c) =
-          let one = switch-row T (K .1 .0) (K .1 .1 .1 .1 .1 .1 .1 .0) C (S .after-sensors) (c .row) i (c .enabled) e in
-          (c .to-target ∙ ap (switchTarget T) one, c .to-unit-0)
+      go (inr c) = (c, switch-row T (K .1 .0) (K .1 .1 .1 .1 .1 .1 .1 .0) C (S .after-sensors) (c .row) i (c .enabled) e)

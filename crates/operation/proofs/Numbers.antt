@@ -39,7 +39,7 @@ own-order : (L : Advance) → firstRefusal runRefusals L ≡ ownAnswer L
 unfolding joinedBad
 own-order L = answer-append (joinedRefusal ∷ []) (unplaced stateRefused stateBad ∷ []) L (omega arith)
 
--- the answer of an advance before anything runs is 1, then that of 2 to 11 of the tables, then that of 13 and 21
+-- the answer of an advance before anything runs is 1, then that of 2 to 11 and 24 of the tables, then that of 13 and 21
 judged-order : (L : Advance)
     → judgedAnswer L ≡ cond (advanceShapeBad L) (placeless shapeRefused) (orNext (tablesAndCodeAnswer (L .tables)) (ownAnswer L))
 unfolding judgedAnswer

@@ -1,4 +1,4 @@
-// Numbers 2 to 11, for every call that is lent the tables and more: its own 1 comes before them, numbers of its own behind.
+// Numbers 2 to 11 and 24, for every call that is lent the tables and more: its own 1 comes before them, numbers of its own behind.
 ghost use mathlib.Core.Path.{_≡_};
 ghost use lib.IntN.{ℤ};
 ghost use Rattle.program.specs.Tables.{tablesIn};
@@ -21,7 +21,7 @@ pub fn code_long(tables: &[&[i32]; Program::TABLES]) -> bool
     Program::CODE < addresses::lay_out(tables, sensors, &mut [], &mut [])
 }
 
-// The first of numbers 2 to 11 that applies to tables that have their shape, with its place.
+// The first of numbers 2 to 11 and 24 that applies to tables that have their shape, with its place.
 pub fn tables_and_code(tables: &[&[i32]; Program::TABLES], program: Program) -> Answer
     requires { ⌜ InShape (now tables) ⌝ }
     ensures { λ r. ⌜ r ≡ tablesAndCodeAnswer (tablesIn (now (tables .entry)) (program .start)) ⌝ }

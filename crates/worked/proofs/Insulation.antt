@@ -16,7 +16,7 @@ use Rattle.theory.proofs.Bools.{clash}
 use Rattle.cells.specs.Limits.{suppliers, maxPorts}
 use Rattle.cells.specs.Refusals.{gapRefused}
 use Rattle.readings.specs.Reading.{noReading}
-use Rattle.program.specs.Tables.{taskCount, taskSupplier, switchFrequency, switchTarget, switchDriver}
+use Rattle.program.specs.Tables.{taskCount, taskSupplier, switchFrequency, switchDriver}
 use Rattle.program.specs.Guard.{guardOf, holds}
 use Rattle.program.specs.Sets.{Sensor}
 use Rattle.program.specs.Units.{units, due}
@@ -35,10 +35,10 @@ use Rattle.giotto.specs.Instant.{Function}
 use Rattle.giotto.specs.Execution.{execution}
 use Rattle.demands.specs.Composed.{Accepted, compiling}
 use Rattle.demands.specs.Idle.{Idle, askedOf}
-use Rattle.demands.specs.Missing.{DueAt, Enters}
+use Rattle.demands.specs.Missing.{DueAt, Enters, Takes}
 use Rattle.demands.proofs.Idle.{accepted-of}
 use Rattle.demands.proofs.Supplied.{worst-case-suited}
-use Rattle.demands.proofs.Missing.{missing-taken, gap-exact, missing-enters}
+use Rattle.demands.proofs.Missing.{missing-satisfies, gap-exact, missing-takes}
 use Rattle.worked.specs.Computed.{computed}
 use Rattle.worked.specs.Systems.{mix}
 use Rattle.worked.specs.Example.{insulationText}
@@ -116,11 +116,11 @@ of-alarm = record { in-table = omega arith; of-mode = refl }
 -- in each mode a missing reading satisfies the guard of just one switch, and it is that row
 pub normal-missing : OneSwitch insulation 0 0
 unfolding computed
-normal-missing = missing-taken insulation accepted 0 0 0 resistance of-normal (record { guard = refl; port = refl })
+normal-missing = missing-satisfies insulation accepted 0 0 0 resistance of-normal (record { guard = refl; port = refl })
 
 pub alarm-missing : OneSwitch insulation 1 0
 unfolding computed
-alarm-missing = missing-taken insulation accepted 1 0 3 resistance of-alarm (record { guard = refl; port = refl })
+alarm-missing = missing-satisfies insulation accepted 1 0 3 resistance of-alarm (record { guard = refl; port = refl })
 
 pub normal-row : 0 ≡ normal-missing .row
 unfolding computed
@@ -180,21 +180,28 @@ module _ (F : Function) (readings : ℕ → List ℤ) (whole : (n : ℕ) → len
         is-due = subst (Due i (execution (programOf insulation) F readings n .mode)) (sym (l .unit)) due-here;
       }
 
-  enters : (n m i : ℕ) → SwitchOf insulation m i → Satisfies insulation 0 i → Due i m 0 → MissingAt F readings n m
-      → Enters insulation-system F (insulationLent F readings) n (switchTarget insulation i)
-  enters n m i w s d l =
-      missing-enters insulation-system insulation-accepted F (insulationLent F readings) n
+  takes : (n m i : ℕ) → SwitchOf insulation m i → Satisfies insulation 0 i → Due i m 0 → MissingAt F readings n m
+      → Takes insulation-system F (insulationLent F readings) n i
+  takes n m i w s d l =
+      missing-takes insulation-system insulation-accepted F (insulationLent F readings) n
       (λ k h. worst-case-suited insulation-system windows-accepted F readings whole k)
       i 0 resistance s (due-then n m i w d l) (l .missing)
 
-  -- a missing reading enters the alarm mode, from the normal mode and from the alarm mode
+  -- a missing reading takes row 0 in the normal mode, and not row 1, which leads to the alarm mode too; in the alarm mode it takes row 3
+  pub normal-takes : (n : ℕ) → MissingAt F readings n 0 → Takes insulation-system F (insulationLent F readings) n 0
+  normal-takes n l = takes n 0 0 of-normal normal-satisfied normal-due l
+
+  pub alarm-takes : (n : ℕ) → MissingAt F readings n 1 → Takes insulation-system F (insulationLent F readings) n 3
+  alarm-takes n l = takes n 1 3 of-alarm alarm-satisfied alarm-due l
+
+  -- both enter the alarm mode
   pub alarm-raised : (n : ℕ) → MissingAt F readings n 0 → Enters insulation-system F (insulationLent F readings) n 1
   unfolding computed
-  alarm-raised n l = enters n 0 0 of-normal normal-satisfied normal-due l
+  alarm-raised n l = normal-takes n l .enters
 
   pub alarm-kept : (n : ℕ) → MissingAt F readings n 1 → Enters insulation-system F (insulationLent F readings) n 1
   unfolding computed
-  alarm-kept n l = enters n 1 3 of-alarm alarm-satisfied alarm-due l
+  alarm-kept n l = alarm-takes n l .enters
 
 -- the machine is then at the address of the alarm mode's `future`
 pub alarm-address : futureAddress (programOf insulation) 1 0 ≡ 39
