@@ -43,7 +43,7 @@ TasksOnly =
     → ((t : ℕ) → t < length (program L .tasks) → numAt (L .lent .times) t ≡ numAt times t)
     → advanceAnswer L ≡ advanceAnswer (otherwise L (L .lent .readings) times)
 
--- an advance that is refused before it runs, by 1 to 13, 21 or 24, uses nothing of what it is lent but the lengths
+-- an advance that is refused before it runs, by 1 to 11, 24, 13 or 21, uses nothing of what it is lent but the lengths
 abbrev pub RefusedUsesNone : Type 0
 RefusedUsesNone =
     (L : Advance) (X : Lent) → Static (advanceAnswer L .answer .number) → SameLengths L X → advanceAnswer L ≡ advanceAnswer (lending L X)
