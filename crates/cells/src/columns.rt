@@ -14,6 +14,8 @@ pub mod port {
     pub const INPUT: usize = 2;
 
     pub const OUTPUT: usize = 3;
+
+    pub const PRIVATE: usize = 4;
 }
 
 pub mod task {

@@ -19,7 +19,7 @@ use Rattle.theory.proofs.Puts.{puts-append}
 use Rattle.cells.specs.Cell.{numAt}
 use Rattle.cells.specs.Limits.{maxTasks, firstOutputCall, firstSensorCall}
 use Rattle.program.specs.Program.{Program, task, driver}
-use Rattle.program.specs.Ports.{valueOf, takes, drive, driveAll}
+use Rattle.program.specs.Ports.{valueOf, assigned, drive, driveAll}
 use Rattle.rules.specs.Fields.{InRange}
 use Rattle.rules.proofs.Fields.{range-says}
 use Rattle.runs.specs.Tick.{leftOf}
@@ -60,18 +60,18 @@ module _ (P : Program) (readings times : List ℤ) where
 
   -- what the output copies of tasks put into the ports
   abbrev pub outputPuts : State → List ℕ → List Put
-  outputPuts s ts = gather (λ t. takes (valueOf (s .outputs)) (task P t .outputs)) ts
+  outputPuts s ts = gather (λ t. assigned (valueOf (s .outputs)) (task P t .gives)) ts
 
   -- output copies of tasks that have ended put the tasks' local outputs into the ports
   pub outputs-lead : (ts : List ℕ) (s : State) → ((t : ℕ) → member t ts ≡ true → t < maxTasks) → ((t : ℕ) → member t ts ≡ true → leftOf (s .left) t ≡ 0)
       → through P readings times (map (λ t. calls (firstOutputCall + t)) ts) s ≡ ok (withPorts s (puts (outputPuts s ts) (s .ports)))
   outputs-lead [] s d z = refl
   outputs-lead (t ∷ ts) s d z =
-      let v = puts (takes (valueOf (s .outputs)) (task P t .outputs)) (s .ports) in
+      let v = puts (assigned (valueOf (s .outputs)) (task P t .gives)) (s .ports) in
       call-step (firstOutputCall + t) (outputCall t) (map (λ t. calls (firstOutputCall + t)) ts) s
       (output-range t (omega (arith, d t (member-head t ts)))) (lt-leb 1 (leftOf (s .left) t) (omega (arith, z t (member-head t ts))))
       ∙ outputs-lead ts (withPorts s v) (λ u m. d u (member-tail u t ts m)) (λ u m. z u (member-tail u t ts m))
-      ∙ ap (λ (w : List ℤ). ok (withPorts s w)) (sym (puts-append (takes (valueOf (s .outputs)) (task P t .outputs)) (outputPuts s ts) (s .ports)))
+      ∙ ap (λ (w : List ℤ). ok (withPorts s w)) (sym (puts-append (assigned (valueOf (s .outputs)) (task P t .gives)) (outputPuts s ts) (s .ports)))
 
   -- calls of the drivers of rows let them copy one after the other
   drivers-each : {R : Type 0} (f : R → ℕ) (rows : List R) (s : State) → (Has (λ r. firstOutputCall ≤ f r) rows → ⊥)
@@ -92,7 +92,7 @@ module _ (P : Program) (readings times : List ℤ) where
 
   -- calls that read sensors let each port take its reading
   pub sensors-lead : (ps : List ℕ) (s : State)
-      → through P readings times (map (λ p. calls (firstSensorCall + p)) ps) s ≡ ok (withPorts s (puts (takes (valueOf readings) ps) (s .ports)))
+      → through P readings times (map (λ p. calls (firstSensorCall + p)) ps) s ≡ ok (withPorts s (puts (assigned (valueOf readings) ps) (s .ports)))
   sensors-lead [] s = refl
   sensors-lead (p ∷ ps) s =
       call-step (firstSensorCall + p) (sensorCall p) (map (λ p. calls (firstSensorCall + p)) ps) s (sensor-range p) refl

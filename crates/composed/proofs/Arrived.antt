@@ -22,7 +22,7 @@ use Rattle.runs.specs.Tick.{leftOf}
 use Rattle.giotto.specs.Instant.{Configuration, Function, results, completed, sensed, switchOf, modeAfter, unitAfter, afterSwitch}
 use Rattle.giotto.specs.Instant.{afterDrivers}
 use Rattle.giotto.proofs.Due.{due-of-mode, switch-all}
-use Rattle.giotto.proofs.Stays.{inputs-stay}
+use Rattle.giotto.proofs.Stays.{takes-stay}
 use Rattle.machine.specs.declared.State.{State}
 use Rattle.compiled.proofs.Named.{entered-declared}
 use Rattle.composed.specs.Related.{tasksOf}
@@ -55,7 +55,7 @@ module _ (T : Tables) (W S : List ℤ) (F : Function) where
     pub others : (t : ℕ) → member t (tasksOf P m) ≡ false → leftOf (s .left) t ≡ 0
     pub active : (t : ℕ) → ((C .active t && not (member t (completed P C))) || member t (dueTasks (mode P m) k)) ≡ member t (tasksOf P m)
     pub held : (t p : ℕ) → member t (tasksOf P m) ≡ true → member t (dueTasks (mode P m) k) ≡ false → leftOf (s .left) t ≡ 0
-        → member p (task P t .outputs) ≡ true → valueOf (s .outputs) p ≡ results P F v t p
+        → member p (task P t .gives) ≡ true → valueOf (s .outputs) p ≡ results P F v t p
     pub below : (j : ℕ) → j < suppliers → Below T W S F j m k (s .left)
 
   module _ (a : programVerdict T ≡ acceptedNumber) (n : ℕ) (C : Configuration) (s : State) (g : Edge T W S F n C s)
@@ -91,7 +91,7 @@ module _ (T : Tables) (W S : List ℤ) (F : Function) where
           held = λ t p e n z q.
               g .held t p e n z q
               ∙ ap (λ (x : List ℤ). F t x p)
-              (sym (inputs-stay T a (results P F (C .ports)) readings C all (g .at .declared) t (due-declared T a (C .mode) 0 t (g .at .declared) e) n));
+              (sym (takes-stay T a (results P F (C .ports)) readings C all (g .at .declared) t (due-declared T a (C .mode) 0 t (g .at .declared) e) n));
           below = g .below;
         }
 

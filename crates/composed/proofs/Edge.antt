@@ -17,7 +17,7 @@ use Rattle.theory.proofs.Members.{keep-members}
 use Rattle.cells.specs.Limits.{suppliers, maxPorts, maxTasks}
 use Rattle.program.specs.Tables.{Tables, portFirst}
 use Rattle.program.specs.Program.{Program, programOf, task, mode, ticksOf, nextUnit, dueTasks}
-use Rattle.program.specs.Ports.{valueOf, takes}
+use Rattle.program.specs.Ports.{valueOf, assigned}
 use Rattle.program.proofs.Decoded.{mode-count, next-below}
 use Rattle.rules.proofs.Accepted.{accepted-fields, due-declared}
 use Rattle.code.proofs.Accepted.{accepted-modes}
@@ -64,7 +64,7 @@ module _ (T : Tables) (W S : List ℤ) (F : Function) where
     pub still-active : (t : ℕ) → member t (tasksOf P (C .mode)) ≡ true → member t (dueTasks (mode P (C .mode)) (C .unit)) ≡ false
         → C .active t ≡ true
     pub held : (t p : ℕ) → member t (tasksOf P (C .mode)) ≡ true → member t (dueTasks (mode P (C .mode)) (C .unit)) ≡ false
-        → leftOf (s .left) t ≡ 0 → member p (task P t .outputs) ≡ true → valueOf (s .outputs) p ≡ results P F (C .ports) t p
+        → leftOf (s .left) t ≡ 0 → member p (task P t .gives) ≡ true → valueOf (s .outputs) p ≡ results P F (C .ports) t p
     pub most : (t : ℕ) → leftOf (s .left) t ≤ task P t .worst
     pub below : (j : ℕ) → j < suppliers → Below j (C .mode) (C .unit) (s .left)
 
@@ -87,7 +87,7 @@ module _ (T : Tables) (W S : List ℤ) (F : Function) where
           all-left = length-replicate {A = ℕ} maxTasks 0;
           copied =
               copied-same P (keep (λ t. true) (tasksOf P (P .start))) (P .first)
-              ∙ sym (ap (λ (ts : List ℕ). puts (gather (λ t. takes (results P F (P .first) t) (task P t .outputs)) ts) (P .first)) (none (tasksOf P (P .start))));
+              ∙ sym (ap (λ (ts : List ℕ). puts (gather (λ t. assigned (results P F (P .first) t) (task P t .gives)) ts) (P .first)) (none (tasksOf P (P .start))));
           ended = λ t e. zeros-at maxTasks t;
           others = λ t e. zeros-at maxTasks t;
           only-active = λ t e. clash {b = false} e refl;
@@ -175,8 +175,8 @@ module _ (T : Tables) (W S : List ℤ) (F : Function) where
           step-1 : afterTasks P (local s) (seen (C .mode) (C .unit) s)
               ≡ afterTasks P (results P F (C .ports)) C
           step-1 =
-              ap₂ (λ (ts : List ℕ) (v : List ℤ). puts (gather (λ t. takes (valueOf (s .outputs)) (task P t .outputs)) ts) v)
+              ap₂ (λ (ts : List ℕ) (v : List ℤ). puts (gather (λ t. assigned (valueOf (s .outputs)) (task P t .gives)) ts) v)
               (keep-members (λ t. true) due (λ t m. refl)) (g .ports)
               ∙ copied-held P due (C .ports) (valueOf (s .outputs)) (results P F (C .ports)) (λ t p m. g .held t p (of-mode t m) (due-ended t m))
-              ∙ ap (λ (ts : List ℕ). puts (gather (λ t. takes (results P F (C .ports) t) (task P t .outputs)) ts) (C .ports))
+              ∙ ap (λ (ts : List ℕ). puts (gather (λ t. assigned (results P F (C .ports) t) (task P t .gives)) ts) (C .ports))
               (sym (keep-members (C .active) due (λ t m. g .active t ∙ of-mode t m)))

@@ -126,7 +126,7 @@ module _ (T : Tables) (W S : List ℤ) (F : Function) (h : Sound T W S) (n : ℕ
         go false q = omega (arith, keeps t q, g .most t)
 
     -- a task of the mode that has no time left was not released, and holds its results
-    holding : (t p : ℕ) → member t (tasksOf P to) ≡ true → leftOf now t ≡ 0 → member p (task P t .outputs) ≡ true
+    holding : (t p : ℕ) → member t (tasksOf P to) ≡ true → leftOf now t ≡ 0 → member p (task P t .gives) ≡ true
         → valueOf (s .outputs) p ≡ results P F (afterDrivers P (mode P to) at (afterSwitch P switch read)) t p
     holding t p e z q = go (member t due) refl
       where

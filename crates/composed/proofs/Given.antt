@@ -48,7 +48,7 @@ module _ (T : Tables) (W S : List ℤ) (F : Function) (n : ℕ) (C : Configurati
   pub given-suits : Sound T W S → Related T W S F n C s
       → length (X .readings) ≡ maxPorts → length (X .results) ≡ maxPorts → length (X .times) ≡ maxTasks
       → ((t : ℕ) → member t (releasedBy P F n (X .readings) C) ≡ true → InRange (numAt (X .times) t) (task P t .worst))
-      → ((t p : ℕ) → pass P F n (X .readings) C .active t ≡ true → member p (task P t .outputs) ≡ true
+      → ((t p : ℕ) → pass P F n (X .readings) C .active t ≡ true → member p (task P t .gives) ≡ true
       → valueOf (X .results) p ≡ results P F (pass P F n (X .readings) C .ports) t p)
       → Suited T (emit (listingOf T)) S F n C s X
   given-suits h r rl ol tl times gives = record {

@@ -60,7 +60,7 @@ module _ (T : Tables) (W S : List ℤ) (F : Function) (sound : Sound T W S) (k n
   pub passing : (r : List ℕ) (o : List ℤ) → length r ≡ maxTasks → length o ≡ maxPorts
       → ((t : ℕ) → leftOf r t ≤ leftOf (u .left) t)
       → ((j : ℕ) → j < suppliers → AtMost (OwnedBy P j) r (leftAfter (actOf S u j) (u .left)))
-      → ((t p : ℕ) → member t (tasksOf P (C .mode)) ≡ true → leftOf r t ≡ 0 → member p (task P t .outputs) ≡ true
+      → ((t p : ℕ) → member t (tasksOf P (C .mode)) ≡ true → leftOf r t ≡ 0 → member p (task P t .gives) ≡ true
       → valueOf o p ≡ results P F (C .ports) t p)
       → Going T W S F k (suc n) C (afterTick S u r o)
   passing r o a b less own holds = record {

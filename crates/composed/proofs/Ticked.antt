@@ -16,7 +16,7 @@ use Rattle.cells.specs.Limits.{suppliers}
 use Rattle.program.specs.Tables.{Tables}
 use Rattle.program.specs.Program.{Program, programOf, task}
 use Rattle.program.specs.Ports.{valueOf, valuesOf}
-use Rattle.program.proofs.Decoded.{output-declared}
+use Rattle.program.proofs.Decoded.{given-declared}
 use Rattle.rules.proofs.Shape.{ports-few}
 use Rattle.rules.proofs.Accepted.{accepted-shaped}
 use Rattle.runs.specs.Tick.{leftOf, Act, work, leftAfter}
@@ -51,8 +51,8 @@ module _ (T : Tables) (W S : List ℤ) (F : Function) (sound : Sound T W S) (k n
   -- a tick in which task t of supplier i runs
   module _ (t i : ℕ) (l : i < suppliers) (q : actOf S u i ≡ work t) (only : (j : ℕ) → j < suppliers → runsNow S u j ≡ true → j ≡ i)
       (e : running S u ≡ one t)
-      (fits : (p : ℕ) → leftOf (u .left) t ≡ 1 → member p (task P t .outputs) ≡ true
-      → valueOf given p ≡ F t (valuesOf (u .ports) (task P t .inputs)) p) where
+      (fits : (p : ℕ) → leftOf (u .left) t ≡ 1 → member p (task P t .gives) ≡ true
+      → valueOf given p ≡ F t (valuesOf (u .ports) (task P t .takes)) p) where
     -- a task that runs has time left
     busy : 1 ≤ leftOf (u .left) t
     busy = tick-busy (blockOf S i (u .current)) (u .elapsed) (placeOf S u i) t q
@@ -83,24 +83,24 @@ module _ (T : Tables) (W S : List ℤ) (F : Function) (sound : Sound T W S) (k n
             let b = ap (λ (r : List ℕ). leftOf r x) (rests (actOf S u j) (u .left) z) in omega (arith, b, after-less (work t) (u .left) x)
 
     -- a task that completes has its results in its local outputs
-    completed : (p : ℕ) → leftOf (leftAfter (work t) (u .left)) t ≡ 0 → member p (task P t .outputs) ≡ true
+    completed : (p : ℕ) → leftOf (leftAfter (work t) (u .left)) t ≡ 0 → member p (task P t .gives) ≡ true
         → valueOf (outputsAfter P given u t) p ≡ results P F (C .ports) t p
     completed p z m =
         let c : leftOf (u .left) t ≡ 1 = omega (arith, busy, worked .nearer, z) in
-        let b : p < length (u .outputs) = omega (arith, h .all-outputs, ports-few T (accepted-shaped T (sound .accepted)), output-declared T t p m .0) in
-        worked .completes c p b m ∙ (fits p c m ∙ ap (λ (v : List ℤ). F t (valuesOf v (task P t .inputs)) p) (h .ports))
+        let b : p < length (u .outputs) = omega (arith, h .all-outputs, ports-few T (accepted-shaped T (sound .accepted)), given-declared T t p m) in
+        worked .completes c p b m ∙ (fits p c m ∙ ap (λ (v : List ℤ). F t (valuesOf v (task P t .takes)) p) (h .ports))
 
     -- after the tick every task of the mode that has ended has its results in its local outputs
-    holds : (x p : ℕ) → member x (tasksOf P (C .mode)) ≡ true → leftOf (leftAfter (work t) (u .left)) x ≡ 0 → member p (task P x .outputs) ≡ true
+    holds : (x p : ℕ) → member x (tasksOf P (C .mode)) ≡ true → leftOf (leftAfter (work t) (u .left)) x ≡ 0 → member p (task P x .gives) ≡ true
         → valueOf (outputsAfter P given u t) p ≡ results P F (C .ports) x p
     holds x p w z m = go (ℕ-discrete x t)
       where
         go : Dec (x ≡ t) → valueOf (outputsAfter P given u t) p ≡ results P F (C .ports) x p
         go (yes d) =
             subst (λ (y : ℕ). valueOf (outputsAfter P given u t) p ≡ results P F (C .ports) y p) (sym d)
-            (completed p (subst (λ (y : ℕ). leftOf (leftAfter (work t) (u .left)) y ≡ 0) d z) (subst (λ (y : ℕ). member p (task P y .outputs) ≡ true) d m))
+            (completed p (subst (λ (y : ℕ). leftOf (leftAfter (work t) (u .left)) y ≡ 0) d z) (subst (λ (y : ℕ). member p (task P y .gives) ≡ true) d m))
         go (no d) =
-            worked .stays p (inl (is-false (says-itself (member p (task P t .outputs)))
+            worked .stays p (inl (is-false (says-itself (member p (task P t .gives)))
             (λ y. d (tasks-one T (sound .accepted) (C .mode) x t p (h .declared) w in-mode m y))))
             ∙ h .held x p w (sym (worked .others x d) ∙ z) m
 
@@ -114,8 +114,8 @@ module _ (T : Tables) (W S : List ℤ) (F : Function) (sound : Sound T W S) (k n
 -- a tick of the schedules is not refused, and the unit goes on after it
 pub tick-related : (T : Tables) (W S : List ℤ) (F : Function) → Sound T W S → (k n : ℕ) (C : Configuration) (u : State) (given : List ℤ)
     → Going T W S F k n C u → 1 ≤ u .remaining
-    → ((t p : ℕ) → running S u ≡ one t → leftOf (u .left) t ≡ 1 → member p (task (programOf T) t .outputs) ≡ true
-    → valueOf given p ≡ F t (valuesOf (u .ports) (task (programOf T) t .inputs)) p)
+    → ((t p : ℕ) → running S u ≡ one t → leftOf (u .left) t ≡ 1 → member p (task (programOf T) t .gives) ≡ true
+    → valueOf given p ≡ F t (valuesOf (u .ports) (task (programOf T) t .takes)) p)
     → (v : State) × (tickAll (programOf T) S given u ≡ ok v) × Going T W S F k (suc n) C v
 tick-related T W S F sound k n C u given h more fits = go (running S u) refl (known (actOf S u) suppliers)
   where

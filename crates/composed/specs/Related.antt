@@ -67,7 +67,7 @@ module _ (T : Tables) (W S : List ℤ) (F : Function) where
     pub active : (t : ℕ) → C .active t ≡ member t (tasksOf P (C .mode))
     pub others : (t : ℕ) → member t (tasksOf P (C .mode)) ≡ false → leftOf (s .left) t ≡ 0
     -- a task of the mode that has ended has its results in its local outputs
-    pub held : (t p : ℕ) → member t (tasksOf P (C .mode)) ≡ true → leftOf (s .left) t ≡ 0 → member p (task P t .outputs) ≡ true
+    pub held : (t p : ℕ) → member t (tasksOf P (C .mode)) ≡ true → leftOf (s .left) t ≡ 0 → member p (task P t .gives) ≡ true
         → valueOf (s .outputs) p ≡ results P F (C .ports) t p
     -- no task has more time left than its worst case; each supplier is ahead of its worst-case run alone
     pub most : (t : ℕ) → leftOf (s .left) t ≤ task P t .worst

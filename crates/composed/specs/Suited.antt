@@ -1,5 +1,5 @@
 -- What is asked of what a tick is lent, and only of what is used in it: whole slices, times in range for the tasks that are released in
--- it, and for the task that completes in it the results that its function gives for its inputs.
+-- it, and for the task that completes in it the results that its function gives for its inputs and private ports.
 use Prim.Native.Nat.{ℕ}
 use mathlib.Core.Path.{_≡_}
 use mathlib.Core.Bool.{true}
@@ -35,10 +35,11 @@ pub record Suited (T : Tables) (code : List ℕ) (S : List ℤ) (F : Function) (
   -- the execution time of a task that is released in the tick lies in 1..worst case
   pub times : (t : ℕ) → member t (releasedBy (programOf T) F n (X .readings) C) ≡ true
       → InRange (numAt (X .times) t) (task (programOf T) t .worst)
-  -- the results of a task that completes in the tick are the function of the task and its inputs
+  -- the results of a task that completes in the tick, at its outputs and private ports, are the function of the task, its inputs and its
+  -- private ports
   pub results : (u : State) (t p : ℕ)
       → ready (programOf T) (instructions code) (X .readings) (X .times) s ≡ ok u
       → running S u ≡ one t
       → leftOf (u .left) t ≡ 1
-      → member p (task (programOf T) t .outputs) ≡ true
-      → valueOf (X .results) p ≡ F t (valuesOf (u .ports) (task (programOf T) t .inputs)) p
+      → member p (task (programOf T) t .gives) ≡ true
+      → valueOf (X .results) p ≡ F t (valuesOf (u .ports) (task (programOf T) t .takes)) p

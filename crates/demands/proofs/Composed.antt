@@ -61,7 +61,7 @@ module _ (Y : System) (a : Accepted Y) (F : Function) (lents : ℕ → Lent) whe
       one-tick n (configurationAt Y F lents n) (stateAt Y lents n) (lents n) (f n (omega arith)) (related n (λ k l. f k (omega arith))) .1
 
   -- related configurations and states have the same ports
-  same-ports : (n : ℕ) (C : Configuration) (s : State) → Related (Y .tables) (Y .windows) (joined Y) F n C s → s .ports ≡ C .ports
+  pub same-ports : (n : ℕ) (C : Configuration) (s : State) → Related (Y .tables) (Y .windows) (joined Y) F n C s → s .ports ≡ C .ports
   same-ports n C s (inl f) = ap (λ (u : State). u .ports) (f .is-fresh) ∙ sym (ap (λ (D : Configuration). D .ports) (f .initially))
   same-ports n C s (inr (k, g)) = g .ports
 

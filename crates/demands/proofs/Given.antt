@@ -16,9 +16,9 @@ use Rattle.theory.proofs.Puts.{Wrote, puts-length, puts-at}
 use Rattle.cells.specs.Limits.{maxPorts, maxTasks}
 use Rattle.program.specs.Tables.{Tables}
 use Rattle.program.specs.Program.{Program, programOf, task}
-use Rattle.program.specs.Ports.{valueOf, takes}
-use Rattle.program.proofs.Decoded.{output-declared}
-use Rattle.program.proofs.Ports.{takes-exactly}
+use Rattle.program.specs.Ports.{valueOf, assigned}
+use Rattle.program.proofs.Decoded.{given-declared}
+use Rattle.program.proofs.Ports.{assigned-exactly}
 use Rattle.rules.specs.Verdict.{programVerdict}
 use Rattle.rules.proofs.Shape.{ports-few, tasks-few}
 use Rattle.rules.proofs.Accepted.{accepted-shaped}
@@ -29,7 +29,7 @@ use Rattle.machine.specs.Advance.{Lent}
 use Rattle.composed.specs.Suited.{Suited}
 use Rattle.composed.proofs.Given.{given-suits}
 use Rattle.demands.specs.Composed.{System, Accepted, joined, stateAt, configurationAt, SuitedAt}
-use Rattle.demands.specs.Given.{Given, GivenFair, GivenRight, gives, resultsOf, lentBy, GivenMet, ExecutionRight}
+use Rattle.demands.specs.Given.{Given, GivenFair, GivenRight, resultPuts, resultsOf, lentBy, GivenMet, ExecutionRight}
 use Rattle.demands.proofs.Sound.{accepted-sound}
 use Rattle.demands.proofs.Composed.{is-compiled, related-always, composed-run}
 
@@ -59,27 +59,27 @@ given-suited Y a F lents n g = suited-below Y a F lents (suc n) (λ k l. g k (om
 pub given-right : GivenRight
 given-right Y a F lents n g = composed-run Y a .1 F lents n (λ k l. given-suited Y a F lents k (λ j b. g j (omega arith)))
 
--- where the tasks that pass give values for their outputs, p gets x exactly where one of them has p as an output, and gives x for it
+-- where the tasks that pass give values for these ports, p gets x exactly where p is a port of one of them, which gives x for it
 gives-exactly : (pass : ℕ → Bool) (value : ℕ → ℕ → ℤ) (outputs : ℕ → List ℕ) (n p : ℕ) (x : ℤ)
-    → Wrote (gather (λ t. takes (value t) (outputs t)) (those pass (λ t. t) n 0)) p x
+    → Wrote (gather (λ t. assigned (value t) (outputs t)) (those pass (λ t. t) n 0)) p x
     ↔ ((t : ℕ) × (t < n) × (pass t ≡ true) × (member p (outputs t) ≡ true) × (x ≡ value t p))
 gives-exactly pass value outputs n p x =
-    let parts = has-gather (λ (b : Put). (b .place ≡ p) × (x ≡ b .value)) (λ t. takes (value t) (outputs t)) (those pass (λ t. t) n 0) in
-    let rows = has-those (λ t. Wrote (takes (value t) (outputs t)) p x) pass (λ t. t) n in (
+    let parts = has-gather (λ (b : Put). (b .place ≡ p) × (x ≡ b .value)) (λ t. assigned (value t) (outputs t)) (those pass (λ t. t) n 0) in
+    let rows = has-those (λ t. Wrote (assigned (value t) (outputs t)) p x) pass (λ t. t) n in (
       λ w.
           let (t, l, e, h) = rows .0 (parts .0 w) in
-          let (m, q) = takes-exactly (value t) (outputs t) p x .0 h in (t, l, e, m, q),
-      λ (t, l, e, m, q). parts .1 (rows .1 (t, l, e, takes-exactly (value t) (outputs t) p x .1 (m, q))),
+          let (m, q) = assigned-exactly (value t) (outputs t) p x .0 h in (t, l, e, m, q),
+      λ (t, l, e, m, q). parts .1 (rows .1 (t, l, e, assigned-exactly (value t) (outputs t) p x .1 (m, q))),
     )
 
--- for an output of an active task the results have what the task gives: active tasks share no output
+-- for a port that an active task gives the results have what it gives: no two active tasks give one port
 given-at : (T : Tables) → programVerdict T ≡ acceptedNumber → (F : Function) (readings : ℕ → List ℤ) (n t p : ℕ)
     → let C = execution (programOf T) F readings (suc n) in
-    C .active t ≡ true → member p (task (programOf T) t .outputs) ≡ true
+    C .active t ≡ true → member p (task (programOf T) t .gives) ≡ true
     → valueOf (resultsOf (programOf T) F C) p ≡ results (programOf T) F (C .ports) t p
 given-at T a F readings n t p e m =
-    puts-at (pos 0) (gives P F C) (replicate maxPorts (pos 0)) p (value t p)
-    (omega (arith, ports-few T (accepted-shaped T a), output-declared T t p m .0))
+    puts-at (pos 0) (resultPuts P F C) (replicate maxPorts (pos 0)) p (value t p)
+    (omega (arith, ports-few T (accepted-shaped T a), given-declared T t p m))
     (exactly (value t p) .1 (t, few, e, m, refl))
     (λ y w. one y (exactly y .0 w))
   where
@@ -95,11 +95,11 @@ given-at T a F readings n t p e m =
     few : t < maxTasks
     few = omega (arith, active-declared T a F readings (suc n) t e, tasks-few T (accepted-shaped T a))
 
-    exactly : (x : ℤ) → Wrote (gives P F C) p x
-        ↔ ((t : ℕ) × (t < maxTasks) × (C .active t ≡ true) × (member p (task P t .outputs) ≡ true) × (x ≡ value t p))
-    exactly x = gives-exactly (C .active) value (λ t. task P t .outputs) maxTasks p x
+    exactly : (x : ℤ) → Wrote (resultPuts P F C) p x
+        ↔ ((t : ℕ) × (t < maxTasks) × (C .active t ≡ true) × (member p (task P t .gives) ≡ true) × (x ≡ value t p))
+    exactly x = gives-exactly (C .active) value (λ t. task P t .gives) maxTasks p x
 
-    one : (y : ℤ) → (u : ℕ) × (u < maxTasks) × (C .active u ≡ true) × (member p (task P u .outputs) ≡ true) × (y ≡ value u p) → y ≡ value t p
+    one : (y : ℤ) → (u : ℕ) × (u < maxTasks) × (C .active u ≡ true) × (member p (task P u .gives) ≡ true) × (y ≡ value u p) → y ≡ value t p
     one y (u, l, d, o, q) = q ∙ ap (λ (u : ℕ). value u p) (active-one T a F readings (suc n) u t p d e o m)
 
 -- the results computed from the execution are those asked for

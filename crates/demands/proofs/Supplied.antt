@@ -16,9 +16,9 @@ use Rattle.cells.specs.Cell.{indexOf, numAt}
 use Rattle.cells.specs.Limits.{maxPorts, maxTasks}
 use Rattle.program.specs.Tables.{Tables, taskCount}
 use Rattle.program.specs.Program.{Program, programOf, task}
-use Rattle.program.specs.Ports.{valueOf, takes}
-use Rattle.program.proofs.Decoded.{task-row, output-declared}
-use Rattle.program.proofs.Ports.{takes-at}
+use Rattle.program.specs.Ports.{valueOf, assigned}
+use Rattle.program.proofs.Decoded.{task-row, given-declared}
+use Rattle.program.proofs.Ports.{assigned-at}
 use Rattle.rules.specs.Fields.{InRange}
 use Rattle.rules.specs.Verdict.{programVerdict}
 use Rattle.rules.proofs.Shape.{ports-few, tasks-few}
@@ -54,16 +54,16 @@ module _ (Y : System) (F : Function) (readings times : ℕ → List ℤ) where
     where
       go : (w : Who) → length (givenBy P F u w) ≡ maxPorts
       go nobody = refl
-      go (one t) = puts-length (takes (results P F (u .ports) t) (task P t .outputs)) (replicate maxPorts (pos 0))
+      go (one t) = puts-length (assigned (results P F (u .ports) t) (task P t .gives)) (replicate maxPorts (pos 0))
       go several = refl
   given-length (stop n) = refl
 
-  -- for an output of the task that runs, the result is that of the task function
-  given-right : (u : State) (t p : ℕ) → p < maxPorts → running (joined Y) u ≡ one t → member p (task P t .outputs) ≡ true
+  -- for a port that the task gives which runs, the result is that of the task function
+  given-right : (u : State) (t p : ℕ) → p < maxPorts → running (joined Y) u ≡ one t → member p (task P t .gives) ≡ true
       → valueOf (givenBy P F u (running (joined Y) u)) p ≡ results P F (u .ports) t p
   given-right u t p l e m =
       ap (λ (w : Who). valueOf (givenBy P F u w) p) e
-      ∙ takes-at (results P F (u .ports) t) (task P t .outputs) (replicate maxPorts (pos 0)) p l m
+      ∙ assigned-at (results P F (u .ports) t) (task P t .gives) (replicate maxPorts (pos 0)) p l m
 
   -- the premises of the composed run hold at every tick
   pub premises-met : windowsVerdict (record { tables = Y .tables; windows = Y .windows }) ≡ acceptedNumber
@@ -85,9 +85,9 @@ module _ (Y : System) (F : Function) (readings times : ℕ → List ℤ) where
       outcome : State → Outcome
       outcome s = ready P (instructions (code Y)) (readings n) (times n) s
 
-      inside : (t p : ℕ) → member p (task P t .outputs) ≡ true → p < maxPorts
+      inside : (t p : ℕ) → member p (task P t .gives) ≡ true → p < maxPorts
       inside t p m =
-          omega (arith, ports-few (Y .tables) (accepted-shaped (Y .tables) (windows-accepted _ w)), output-declared (Y .tables) t p m .0)
+          omega (arith, ports-few (Y .tables) (accepted-shaped (Y .tables) (windows-accepted _ w)), given-declared (Y .tables) t p m)
 
 -- the worst-case time of a declared task is in range
 worst-in-range : (T : Tables) → programVerdict T ≡ acceptedNumber → (t : ℕ) → t < taskCount T

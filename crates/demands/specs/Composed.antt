@@ -63,7 +63,8 @@ module _ (Y : System) where
     configurationAt n = execution (programOf (Y .tables)) F readings n
 
     -- What is asked of tick n, and only of what is used in it: whole slices; the time of a task that is released in it from 1 to its
-    -- worst case; the results of a task that completes in it F of the task and of the values of its inputs
+    -- worst case; the results of a task that completes in it, for its outputs and private ports, F of the task and of the values of its
+    -- inputs and private ports
     abbrev pub SuitedAt : ℕ → Type 0
     SuitedAt n = Suited (Y .tables) code joined F n (configurationAt n) (stateAt lents n) (lents n)
 

@@ -12,7 +12,7 @@ use Rattle.cells.specs.Cell.{numAt}
 use Rattle.cells.specs.Limits.{maxPorts, maxTasks}
 use Rattle.program.specs.Tables.{Tables}
 use Rattle.program.specs.Program.{Program, programOf, task}
-use Rattle.program.specs.Ports.{valueOf, valuesOf, takes}
+use Rattle.program.specs.Ports.{valueOf, valuesOf, assigned}
 use Rattle.rules.specs.Fields.{InRange}
 use Rattle.rules.specs.Verdict.{programVerdict}
 use Rattle.giotto.specs.Instant.{Configuration, Function, results}
@@ -21,14 +21,15 @@ use Rattle.machine.specs.Advance.{Lent}
 use Rattle.demands.specs.Composed.{System, Accepted, SuitedAt, Right}
 
 -- What is asked of tick n: whole slices; the time of a task that is released in it from 1 to its worst case; and for every task that is
--- active in Giotto's configuration after the tick's instant, and each of its outputs, the result that F gives for the task's inputs
+-- active in Giotto's configuration after the tick's instant, and each of its outputs and private ports, the result that F gives for the
+-- values of the task's inputs and private ports
 pub record Given (P : Program) (F : Function) (lents : ℕ → Lent) (n : ℕ) : Type 0 where
   pub readings-length : length (lents n .readings) ≡ maxPorts
   pub results-length : length (lents n .results) ≡ maxPorts
   pub times-length : length (lents n .times) ≡ maxTasks
   pub times : (t : ℕ) → member t (releasedAt P F (λ k. lents k .readings) n) ≡ true → InRange (numAt (lents n .times) t) (task P t .worst)
-  pub results : (t p : ℕ) → execution P F (λ k. lents k .readings) (suc n) .active t ≡ true → member p (task P t .outputs) ≡ true
-      → valueOf (lents n .results) p ≡ F t (valuesOf (portsInTick P F (λ k. lents k .readings) n) (task P t .inputs)) p
+  pub results : (t p : ℕ) → execution P F (λ k. lents k .readings) (suc n) .active t ≡ true → member p (task P t .gives) ≡ true
+      → valueOf (lents n .results) p ≡ F t (valuesOf (portsInTick P F (λ k. lents k .readings) n) (task P t .takes)) p
 
 -- What is asked of ticks is enough for the composed run: a tick is suited, and so right, as long as all ticks up to it are lent it
 abbrev pub GivenFair : Type 0
@@ -41,13 +42,13 @@ GivenRight =
     (Y : System) → Accepted Y → (F : Function) (lents : ℕ → Lent) (n : ℕ)
     → ((k : ℕ) → k ≤ n → Given (programOf (Y .tables)) F lents k) → Right Y F lents n
 
--- the results that the active tasks of a configuration give for their outputs
-abbrev pub gives : Program → Function → Configuration → List Put
-gives P F C = gather (λ t. takes (results P F (C .ports) t) (task P t .outputs)) (those (C .active) (λ t. t) maxTasks 0)
+-- the results that the active tasks of a configuration give
+abbrev pub resultPuts : Program → Function → Configuration → List Put
+resultPuts P F C = gather (λ t. assigned (results P F (C .ports) t) (task P t .gives)) (those (C .active) (λ t. t) maxTasks 0)
 
 -- the results by port: what the active tasks of a configuration give; 0 elsewhere
 abbrev pub resultsOf : Program → Function → Configuration → List ℤ
-resultsOf P F C = puts (gives P F C) (replicate maxPorts (pos 0))
+resultsOf P F C = puts (resultPuts P F C) (replicate maxPorts (pos 0))
 
 -- what is lent to tick n, computed from Giotto's execution
 abbrev pub lentBy : Program → Function → (ℕ → List ℤ) → (ℕ → List ℤ) → ℕ → Lent
@@ -60,7 +61,7 @@ pub record LentFits (P : Program) (F : Function) (readings times : ℕ → List 
   pub times-length : (n : ℕ) → length (times n) ≡ maxTasks
   pub in-range : (n t : ℕ) → member t (releasedAt P F readings n) ≡ true → InRange (numAt (times n) t) (task P t .worst)
 
--- The results computed from Giotto's execution are what is asked of every tick: active tasks share no output
+-- The results computed from Giotto's execution are what is asked of every tick: no two active tasks give one port
 abbrev pub GivenMet : Type 0
 GivenMet =
     (T : Tables) → programVerdict T ≡ acceptedNumber → (F : Function) (readings times : ℕ → List ℤ)

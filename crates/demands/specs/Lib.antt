@@ -15,3 +15,4 @@ pub mod Kept
 pub mod Idle
 pub mod Given
 pub mod Missing
+pub mod Private

@@ -46,7 +46,7 @@ pub record Enters (Y : System) (F : Function) (lents : ℕ → Lent) (n m : ℕ)
 
 -- tick n takes the switch of row i: Giotto's execution goes on to the successor by 001, whose steps 4 to 6 change the mode by that row,
 -- with the copies of its driver; and the target of that row is entered
-pub record Takes (Y : System) (F : Function) (lents : ℕ → Lent) (n i : ℕ) : Type 0 where
+pub record TakesSwitch (Y : System) (F : Function) (lents : ℕ → Lent) (n i : ℕ) : Type 0 where
   pub successor : Successor (Y .tables) (results (programOf (Y .tables)) F (configurationAt Y F lents n .ports))
       (valueOf (lents n .readings)) (configurationAt Y F lents n) (configurationAt Y F lents (suc n))
   pub changes : Changes (Y .tables) (configurationAt Y F lents n) (successor .after-sensors) (successor .after-switch)
@@ -61,4 +61,4 @@ MissingTakes =
     (Y : System) → Accepted Y → (F : Function) (lents : ℕ → Lent) (n : ℕ) → ((k : ℕ) → k ≤ n → SuitedAt Y F lents k)
     → (i p : ℕ) → Sensor (Y .tables) p → Satisfies (Y .tables) p i → DueAt (Y .tables) n (configurationAt Y F lents n) i
     → valueOf (lents n .readings) p ≡ noReading
-    → Takes Y F lents n i
+    → TakesSwitch Y F lents n i

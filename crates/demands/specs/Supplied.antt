@@ -1,4 +1,4 @@
--- A run with results that are a task function of the tasks' inputs: for any readings, times and function. It meets the premises of the
+-- A run with results that are a task function of the tasks' inputs and private ports: for any readings, times and function. It meets the premises of the
 -- composed run, so it is Giotto's (proofs/Supplied.antt).
 use Prim.Native.Nat.{ℕ, zero, suc}
 use mathlib.Core.Path.{_≡_}
@@ -10,7 +10,7 @@ use Rattle.theory.specs.Lists.{each, member, puts}
 use Rattle.cells.specs.Cell.{numAt}
 use Rattle.cells.specs.Limits.{maxPorts, maxTasks}
 use Rattle.program.specs.Program.{Program, programOf, task}
-use Rattle.program.specs.Ports.{takes}
+use Rattle.program.specs.Ports.{assigned}
 use Rattle.rules.specs.Fields.{InRange}
 use Rattle.code.specs.Op.{instructions}
 use Rattle.giotto.specs.Instant.{Function, results}
@@ -21,10 +21,10 @@ use Rattle.machine.specs.Advance.{Lent, freshAnswer, ready}
 use Rattle.machine.specs.declared.State.{State}
 use Rattle.demands.specs.Composed.{System, Accepted, joined, code, advanced, Right}
 
--- the results by port: what the task that runs gives for its outputs; 0 elsewhere
+-- the results by port: what the task that runs gives; 0 elsewhere
 abbrev pub givenBy : Program → Function → State → Who → List ℤ
 givenBy P F u nobody = replicate maxPorts (pos 0)
-givenBy P F u (one t) = puts (takes (results P F (u .ports) t) (task P t .outputs)) (replicate maxPorts (pos 0))
+givenBy P F u (one t) = puts (assigned (results P F (u .ports) t) (task P t .gives)) (replicate maxPorts (pos 0))
 givenBy P F u several = replicate maxPorts (pos 0)
 
 module _ (Y : System) (F : Function) (readings times : ℕ → List ℤ) where

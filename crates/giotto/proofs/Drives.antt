@@ -68,8 +68,8 @@ module _ (T : Tables) where
         e : a .0 ≡ b .0
         e =
             same-row (a .0) (b .0)
-            (λ l. k (a .0) (b .0) l (b .1) (a .2 ∙ sym (b .2)) (a .3 ∙ sym (b .3)))
-            (λ l. k (b .0) (a .0) l (a .1) (b .2 ∙ sym (a .2)) (b .3 ∙ sym (a .3)))
+            (λ l. k .apart (a .0) (b .0) l (b .1) (a .2 ∙ sym (b .2)) (a .3 ∙ sym (b .3)))
+            (λ l. k .apart (b .0) (a .0) l (a .1) (b .2 ∙ sym (a .2)) (b .3 ∙ sym (a .3)))
 
   -- the moves of a driver whose guard holds are assignments of what it drives
   pub moves-assign : Shaped T → Fields T → Copies T → (v : List ℤ) (d : ℕ) → d < driverCount T → holds (guardOf T d) (valueOf v) ≡ true

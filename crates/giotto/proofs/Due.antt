@@ -1,7 +1,7 @@
--- The tasks of a mode, which are those due at its unit 0: what is due at any unit is one of them, no two of them share an
--- output, and where a switch is taken all of them are due. Assumes that the program is accepted and the mode declared.
+-- The tasks of a mode, which are those due at its unit 0: what is due at any unit is one of them, no two of them give one port,
+-- and where a switch is taken all of them are due. Assumes that the program is accepted and the mode declared.
 use Prim.Native.Nat.{ℕ, _<_}
-use mathlib.Core.Path.{_≡_, refl, sym, subst, _∙_}
+use mathlib.Core.Path.{_≡_, refl, sym, _∙_}
 use mathlib.Core.Bool.{true, false}
 use mathlib.Core.List.{List}
 use mathlib.Core.Logic.{inl, inr}
@@ -12,33 +12,16 @@ use Rattle.theory.specs.Lists.{member}
 use Rattle.theory.specs.Verdict.{acceptedNumber}
 use Rattle.theory.proofs.Bools.{is-true}
 use Rattle.theory.proofs.Due.{due-first, due-whole}
-use Rattle.theory.proofs.Members.{member-says}
-use Rattle.program.specs.Tables.{Tables, input, output, taskCount, modeCount, invocationFrequency, switchFrequency}
-use Rattle.program.specs.Sets.{OfKind, Input, Output, TaskPort}
+use Rattle.program.specs.Tables.{Tables, modeCount, invocationFrequency, switchFrequency}
 use Rattle.program.specs.Units.{units}
-use Rattle.program.specs.Program.{Switch, portsOf, programOf, task, mode, dueSwitches, dueTasks}
-use Rattle.program.proofs.Decoded.{task-row, has-ports}
+use Rattle.program.specs.Program.{Switch, programOf, task, mode, dueSwitches, dueTasks}
+use Rattle.program.proofs.Decoded.{gives-says}
 use Rattle.rules.specs.Verdict.{programVerdict}
-use Rattle.rules.proofs.Accepted.{accepted-fields, accepted-invocations, accepted-whole, accepted-least, due-declared}
+use Rattle.rules.proofs.Accepted.{accepted-fields, accepted-task-ports, accepted-invocations, accepted-whole, accepted-least, due-declared}
 use Rattle.giotto.specs.Instant.{Configuration, taken}
 use Rattle.giotto.proofs.Active.{enabled-says}
 use Rattle.giotto.proofs.Outputs.{enabled-one}
 use Rattle.giotto.proofs.Switching.{taken-row}
-
-module _ (T : Tables) where
-  -- a port that stands among those of a task and a kind is of that kind and of the task
-  port-of : (kind t p : ℕ) → member p (portsOf T kind t) ≡ true → OfKind T kind p × TaskPort T t p
-  port-of kind t p m =
-      let (k, l, (e, q), s) = has-ports T (λ x. p ≡ x) kind t .0 (member-says p (portsOf T kind t) .yes m) in
-      (subst (OfKind T kind) (sym s) q, (k, l, (e, sym s)))
-
-  -- a member of the outputs of a declared task is an output of it
-  pub output-of : (t p : ℕ) → t < taskCount T → member p (task (programOf T) t .outputs) ≡ true → Output T t p
-  output-of t p l m = port-of output t p (subst (λ K. member p (K .outputs) ≡ true) (task-row T t l) m)
-
-  -- a member of the inputs of a declared task is an input of it
-  pub input-of : (t p : ℕ) → t < taskCount T → member p (task (programOf T) t .inputs) ≡ true → Input T t p
-  input-of t p l m = port-of input t p (subst (λ K. member p (K .inputs) ≡ true) (task-row T t l) m)
 
 module _ (T : Tables) (a : programVerdict T ≡ acceptedNumber) where
   -- a task that is due at a unit of a mode is one of the mode's tasks
@@ -48,13 +31,14 @@ module _ (T : Tables) (a : programVerdict T ≡ acceptedNumber) where
       let (i, d, q) = enabled-says T m k t l .yes e in
       is-true (enabled-says T m 0 t l) (i, record { in-table = d .in-table; of-mode = d .of-mode; is-due = due-first (units T m) (invocationFrequency T i) }, q)
 
-  -- two tasks of a mode that share an output are one
+  -- two tasks of a mode that give one port are one
   pub tasks-one : (m t u p : ℕ) → m < modeCount T
       → member t (dueTasks (mode (programOf T) m) 0) ≡ true → member u (dueTasks (mode (programOf T) m) 0) ≡ true
-      → member p (task (programOf T) t .outputs) ≡ true → member p (task (programOf T) u .outputs) ≡ true → t ≡ u
+      → member p (task (programOf T) t .gives) ≡ true → member p (task (programOf T) u .gives) ≡ true → t ≡ u
   tasks-one m t u p l x y o q =
-      enabled-one T (accepted-invocations T a) m 0 t u p (enabled-says T m 0 t l .yes x) (enabled-says T m 0 u l .yes y)
-      (output-of T t p (due-declared T a m 0 t l x) o) (output-of T u p (due-declared T a m 0 u l y) q)
+      enabled-one T (accepted-task-ports T a) (accepted-invocations T a) m 0 t u p
+      (enabled-says T m 0 t l .yes x) (enabled-says T m 0 u l .yes y)
+      (gives-says T t p (due-declared T a m 0 t l x) .yes o) (gives-says T u p (due-declared T a m 0 u l y) .yes q)
 
   -- rule 10: where a switch is taken, every task of the mode is due
   pub switch-all : (m k t : ℕ) (v : List ℤ) (w : Switch) → m < modeCount T

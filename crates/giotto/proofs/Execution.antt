@@ -63,16 +63,16 @@ module _ (T : Tables) (K : Keep programRules T) (F : Function) (readings : ℕ �
   at n = execution (programOf T) F readings n
 
   -- what the tasks give in tick n, if there is an instant in it
-  abbrev gives : ℕ → ℕ → ℕ → ℤ
-  gives n = results (programOf T) F (at n .ports)
+  abbrev resultAt : ℕ → ℕ → ℕ → ℤ
+  resultAt n = results (programOf T) F (at n .ports)
 
   -- what the instant leaves in tick n, if there is one in it
   abbrev next : ℕ → Configuration
-  next n = instant (programOf T) (gives n) (readings n) (at n)
+  next n = instant (programOf T) (resultAt n) (readings n) (at n)
 
   -- what the instant leaves in tick n is the successor configuration
-  succeeds : (n : ℕ) → Proper T (at n) → Successor T (gives n) (valueOf (readings n)) (at n) (next n)
-  succeeds n s = instant-succeeds T K (gives n) (readings n) (at n) (s .ports) (s .mode) (s .unit)
+  succeeds : (n : ℕ) → Proper T (at n) → Successor T (resultAt n) (valueOf (readings n)) (at n) (next n)
+  succeeds n s = instant-succeeds T K (resultAt n) (readings n) (at n) (s .ports) (s .mode) (s .unit)
 
   -- every configuration of an execution has all ports, a declared mode and one of its units
   pub execution-keeps : (n : ℕ) → Proper T (at n)
@@ -82,16 +82,16 @@ module _ (T : Tables) (K : Keep programRules T) (F : Function) (readings : ℕ �
       go : (b : Bool) → Proper T (at n) → Proper T (elim b [ true ↦ next n | false ↦ at n ])
       go true s =
           record {
-            ports = instant-ports (programOf T) (gives n) (readings n) (at n) ∙ s .ports;
-            mode = instant-mode T (K .1 .0) (gives n) (readings n) (at n) (s .mode);
+            ports = instant-ports (programOf T) (resultAt n) (readings n) (at n) ∙ s .ports;
+            mode = instant-mode T (K .1 .0) (resultAt n) (readings n) (at n) (s .mode);
             unit = rw (succeeds n s .next-unit) (mod-lt (suc (succeeds n s .unit)) (units-some T (next n .mode)));
           }
       go false s = s
 
   -- at a time stamp an execution goes on to the successor configuration
-  pub execution-succeeds : (n : ℕ) → at n .time ≡ n → Successor T (gives n) (valueOf (readings n)) (at n) (at (suc n))
+  pub execution-succeeds : (n : ℕ) → at n .time ≡ n → Successor T (resultAt n) (valueOf (readings n)) (at n) (at (suc n))
   execution-succeeds n e =
-      subst (Successor T (gives n) (valueOf (readings n)) (at n)) (sym (pass-goes (programOf T) F n (readings n) (at n) e)) (succeeds n (execution-keeps n))
+      subst (Successor T (resultAt n) (valueOf (readings n)) (at n)) (sym (pass-goes (programOf T) F n (readings n) (at n) e)) (succeeds n (execution-keeps n))
 
   -- at a tick that is no time stamp nothing changes in an execution
   pub execution-waits : (n : ℕ) → (at n .time ≡ n → ⊥) → at (suc n) ≡ at n

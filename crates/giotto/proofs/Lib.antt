@@ -15,4 +15,5 @@ pub mod Once
 pub mod Execution
 pub mod Due
 pub mod Stays
+pub mod Private
 pub mod ModeTasks

@@ -1,4 +1,4 @@
--- The active tasks of an execution are tasks of its mode: so they are declared, and no two of them share an output.
+-- The active tasks of an execution are tasks of its mode: so they are declared, and no two of them give one port.
 -- Assumes that the program is accepted; the task functions and the readings are any.
 use Prim.Native.Nat.{ℕ, zero, suc, _<_}
 use mathlib.Core.Path.{_≡_, refl, _∙_}
@@ -79,8 +79,8 @@ module _ (T : Tables) (a : programVerdict T ≡ acceptedNumber) where
     active-declared n t e =
         due-declared T a (at n .mode) 0 t (execution-mode T (accepted-fields T a) F readings n) (active-of-mode n t e)
 
-    -- two active tasks of an execution that share an output are one
+    -- two active tasks of an execution that give one port are one
     pub active-one : (n t u p : ℕ) → execution P F readings n .active t ≡ true → execution P F readings n .active u ≡ true
-        → member p (task P t .outputs) ≡ true → member p (task P u .outputs) ≡ true → t ≡ u
+        → member p (task P t .gives) ≡ true → member p (task P u .gives) ≡ true → t ≡ u
     active-one n t u p x y =
         tasks-one T a (at n .mode) t u p (execution-mode T (accepted-fields T a) F readings n) (active-of-mode n t x) (active-of-mode n u y)

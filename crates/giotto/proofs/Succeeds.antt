@@ -86,7 +86,7 @@ module _ (T : Tables) (K : Keep programRules T) (result : ℕ → ℕ → ℤ) (
         after-sensors = valueOf v₃;
         after-switch = valueOf (afterSwitch (programOf T) s v₃);
         unit = u′;
-        step-1 = outputs-next T result C shaped fields invocations m all;
+        step-1 = outputs-next T result C shaped fields task-ports invocations m all;
         step-2 = updates-next T C shaped fields copies updates m v₁ all₁;
         step-3 = sensors-next T shaped readings v₂ all₂;
         step-4-to-6 = w;

@@ -15,10 +15,10 @@ use Rattle.cells.specs.Limits.{maxPorts}
 use Rattle.program.specs.Tables.{Tables, portCount, sensor, modeCount, updateDriver}
 use Rattle.program.specs.Sets.{isKind, Sensor, Destination}
 use Rattle.program.specs.Program.{Update, programOf, driver, mode, dueUpdates}
-use Rattle.program.specs.Ports.{valueOf, moves, takes}
+use Rattle.program.specs.Ports.{valueOf, moves, assigned}
 use Rattle.program.proofs.Sets.{kind-says}
 use Rattle.program.proofs.Decoded.{has-updates}
-use Rattle.program.proofs.Ports.{wrote-takes, wrote-all}
+use Rattle.program.proofs.Ports.{wrote-assigned, wrote-all}
 use Rattle.rules.specs.Shape.{Shaped}
 use Rattle.rules.specs.Fields.{Fields}
 use Rattle.rules.specs.Declared.{Copies}
@@ -69,9 +69,9 @@ module _ (T : Tables) (C : Configuration) where
 module _ (T : Tables) where
   -- the assignments of step 3 are its writes
   sensors-wrote : (value : Valuation) (p : ℕ) (x : ℤ)
-      → Wrote (takes value (programOf T .sensors)) p x ↔ SensorWrites T value p x
+      → Wrote (assigned value (programOf T .sensors)) p x ↔ SensorWrites T value p x
   sensors-wrote value p x =
-      let s = wrote-takes value (programOf T .sensors) p x in
+      let s = wrote-assigned value (programOf T .sensors) p x in
       let r = has-those (λ q. (q ≡ p) × (x ≡ value q)) (isKind T sensor) (λ q. q) (portCount T) in (
         λ h.
             let w = r .0 (s .0 h) in
@@ -79,7 +79,7 @@ module _ (T : Tables) where
         λ w. s .1 (r .1 (p, w .0 .0, is-true (kind-says T sensor p) (w .0), (refl, w .1))),
       )
 
-  sensors-assign : Shaped T → (value : Valuation) → Assigns (SensorWrites T value) (takes value (programOf T .sensors)) maxPorts
+  sensors-assign : Shaped T → (value : Valuation) → Assigns (SensorWrites T value) (assigned value (programOf T .sensors)) maxPorts
   sensors-assign s value =
       record {
         wrote = sensors-wrote value;

@@ -8,7 +8,7 @@ use Rattle.theory.specs.Lists.{keep, gather, member, puts}
 use Rattle.program.specs.Guard.{holds}
 use Rattle.program.specs.Program.{Program, Mode, Switch, task, driver, mode, ticksOf, nextUnit, enteredUnit, dueInvocations, dueUpdates}
 use Rattle.program.specs.Program.{dueSwitches, dueTasks}
-use Rattle.program.specs.Ports.{valueOf, valuesOf, takes, drive, driveAll}
+use Rattle.program.specs.Ports.{valueOf, valuesOf, assigned, drive, driveAll}
 
 -- C = (τ, m, u, v, σactive): the tick of the next instant, mode, unit counter, port values, active tasks
 pub record Configuration : Type 0 where
@@ -33,9 +33,9 @@ module _ (P : Program) where
   abbrev pub completed : Configuration → List ℕ
   completed C = keep (C .active) (dueTasks (mode P (C .mode)) (C .unit))
 
-  -- (1) active due tasks write their outputs: `result t p` is what task t gives for port p
+  -- (1) active due tasks write their outputs and private ports: `result t p` is what task t gives for port p
   abbrev pub afterTasks : (ℕ → ℕ → ℤ) → Configuration → List ℤ
-  afterTasks result C = puts (gather (λ t. takes (result t) (task P t .outputs)) (completed C)) (C .ports)
+  afterTasks result C = puts (gather (λ t. assigned (result t) (task P t .gives)) (completed C)) (C .ports)
 
   -- (2) the port values after the due updates of a mode and unit
   abbrev pub afterUpdates : Mode → ℕ → List ℤ → List ℤ
@@ -43,7 +43,7 @@ module _ (P : Program) where
 
   -- (3) the port values after all sensors are read
   abbrev pub afterSensors : List ℤ → List ℤ → List ℤ
-  afterSensors readings v = puts (takes (valueOf readings) (P .sensors)) v
+  afterSensors readings v = puts (assigned (valueOf readings) (P .sensors)) v
 
   -- (4) the due switch that is taken: the first in table order whose guard holds (where 8 does not apply, it is the only one)
   abbrev pub taken : List ℤ → List Switch → Option Switch
@@ -91,10 +91,11 @@ module _ (P : Program) where
       let s = switchOf C (sensed result readings C) in
       dueTasks (mode P (modeAfter (C .mode) s)) (unitAfter (C .unit) s)
 
--- a task function for each task: from the values of its inputs, in table order, to a value for each output port
+-- a task function for each task: from the values of its inputs and private ports, in table order, to a value for each output and private
+-- port
 abbrev pub Function : Type 0
 Function = ℕ → List ℤ → ℕ → ℤ
 
 -- what each task gives for each port when the ports have these values
 abbrev pub results : Program → Function → List ℤ → ℕ → ℕ → ℤ
-results P F v t p = F t (valuesOf v (task P t .inputs)) p
+results P F v t p = F t (valuesOf v (task P t .takes)) p

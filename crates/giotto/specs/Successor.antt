@@ -1,5 +1,5 @@
 -- 001's successor configuration (section 3.2), step by step and port by port, as a claim over the tables; bounded as in
--- document 01 (no private ports, a switch enters unit 0). 001's step 6 moves the unit before step 7 asks which tasks are due; 01's
+-- document 01 (a switch enters unit 0). 001's step 6 moves the unit before step 7 asks which tasks are due; 01's
 -- steps (5) to (7) drive and release the tasks of the unit entered and move it last, and decide: so here. `instant` computes it, and
 -- nothing else succeeds: `instant-succeeds` and `successor-one` in proofs/.
 use Prim.Native.Nat.{ℕ, suc, _+_, _/_, _%_, _<_}
@@ -13,7 +13,7 @@ use Rattle.program.specs.Tables.{invocationTask, invocationDriver, updateCount,
 use Rattle.program.specs.Tables.{switchMode, switchFrequency}
 use Rattle.program.specs.Tables.{switchTarget, switchDriver, modePeriod}
 use Rattle.program.specs.Guard.{guardOf, holds}
-use Rattle.program.specs.Sets.{Sensor, Output}
+use Rattle.program.specs.Sets.{Sensor, Gives}
 use Rattle.program.specs.Units.{units, due}
 use Rattle.program.specs.Ports.{valueOf}
 use Rattle.giotto.specs.Instant.{Configuration}
@@ -60,9 +60,9 @@ module _ (T : Tables) where
   abbrev pub Enabled : ℕ → ℕ → ℕ → Type 0
   Enabled m u t = (i : ℕ) × InvocationDue m u i × (invocationTask T i ≡ t)
 
-  -- 1. task output ports: a completed task writes what it gives
+  -- 1. task output and private ports: a completed task writes what it gives
   abbrev pub TaskWrites : (ℕ → ℕ → ℤ) → Configuration → ℕ → ℤ → Type 0
-  TaskWrites result C p x = (t : ℕ) × Completed C t × Output T t p × (x ≡ result t p)
+  TaskWrites result C p x = (t : ℕ) × Completed C t × Gives T t p × (x ≡ result t p)
 
   -- 2. actuator ports: an enabled update writes what its driver copies
   abbrev pub UpdateWrites : Configuration → Valuation → ℕ → ℤ → Type 0

@@ -14,10 +14,10 @@ use Rattle.theory.specs.Verdict.{acceptedNumber}
 use Rattle.cells.specs.Cell.{nameOf, rowsIn}
 use Rattle.cells.specs.Limits.{maxPorts, maxTasks, maxDrivers, firstOutputCall, firstSensorCall}
 use Rattle.cells.specs.Refusals.{overrunRefused, faultyRefused}
-use Rattle.program.specs.Tables.{Tables, portWidth, portCount, sensor, output, taskWidth, taskCount, driverWidth, driverCount}
-use Rattle.program.specs.Sets.{isKind}
+use Rattle.program.specs.Tables.{Tables, portWidth, portCount, sensor, taskWidth, taskCount, driverWidth, driverCount}
+use Rattle.program.specs.Sets.{isKind, mayGive}
 use Rattle.program.specs.Program.{Task, Driver, Program, driverRow, portsOf, programOf}
-use Rattle.program.specs.Ports.{valueOf, takes, drive}
+use Rattle.program.specs.Ports.{valueOf, assigned, drive}
 use Rattle.program.proofs.Decoded.{task-row, driver-row}
 use Rattle.runs.specs.Tick.{leftOf}
 use Rattle.machine.specs.declared.State.{State}
@@ -110,16 +110,16 @@ module _ (T : Tables) (readings times : List ℤ) (s : State) where
         call-running (programOf T) readings times s (outputCall t) (task-past T t name b e few n is-b ∙ d)
         (le-leb 1 _ (subst (λ (k : ℕ). 1 ≤ k) (r ∙ ap (leftOf (s .left)) (named-task d .1)) h))
 
-    -- the outputs of a task that has ended take its local outputs
+    -- what a task that has ended gives is taken from beside the local outputs
     pub output-done : not b ≡ false → (rest : ℕ) (v : List ℤ) → rest ≡ leftOf (s .left) name → rest ≤ 0
-        → v ≡ puts (takes (valueOf (s .outputs)) (portsOf T output name)) (s .ports)
+        → v ≡ puts (assigned (valueOf (s .outputs)) (portsOf T (mayGive T) name)) (s .ports)
         → record { number = acceptedNumber; state = withPorts s v } ≡ callAnswer (programOf T) readings times s (outputCall t)
     output-done d rest v r h o =
         let (l, named) = named-task d in
         let declared : t < taskCount T = subst (λ (t′ : List ℤ). t < rowsIn taskWidth t′) (sym e) l in
         ap (λ (w : List ℤ). record { number = acceptedNumber; state = withPorts s w })
-        (o ∙ ap (λ (k : ℕ). puts (takes (valueOf (s .outputs)) (portsOf T output k)) (s .ports)) named
-        ∙ ap (λ (K : Task). puts (takes (valueOf (s .outputs)) (K .outputs)) (s .ports)) (sym (task-row T t declared)))
+        (o ∙ ap (λ (k : ℕ). puts (assigned (valueOf (s .outputs)) (portsOf T (mayGive T) k)) (s .ports)) named
+        ∙ ap (λ (K : Task). puts (assigned (valueOf (s .outputs)) (K .gives)) (s .ports)) (sym (task-row T t declared)))
         ∙ call-done (programOf T) readings times s (outputCall t) (task-past T t name b e few n is-b ∙ d)
         (lt-leb 1 _ (subst (λ (k : ℕ). k < 1) (r ∙ ap (leftOf (s .left)) named) (omega arith)))
 

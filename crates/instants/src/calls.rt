@@ -79,7 +79,7 @@ fn output_call(ports: &[i32], tasks: &[i32], task_ports: &[i32], t: usize, s: St
     }
     let outputs = s.outputs;
     let before = s.ports;
-    let values = values::outputs_taken(ports, task_ports, own, &outputs, before);
+    let values = values::gives_taken(ports, task_ports, own, &outputs, before);
     let mut next = s;
     next.ports = values;
     Advanced {

@@ -10,14 +10,14 @@ use borrow.Author.Tests.{eq-eqb, ne-eqb}
 use Rattle.theory.specs.Lists.{puts}
 use Rattle.theory.proofs.Puts.{puts-length}
 use Rattle.program.specs.Program.{Program, task}
-use Rattle.program.specs.Ports.{valueOf, takes}
+use Rattle.program.specs.Ports.{valueOf, assigned}
 use Rattle.runs.specs.Tick.{leftOf}
 use Rattle.machine.specs.declared.State.{State}
 use Rattle.machine.specs.Schedules.{outputsAt, outputsAfter}
 
 -- in its last tick a task completes, and its results are put into its local outputs
 pub outputs-done : (P : Program) (results : List ℤ) (s : State) (t : ℕ) → leftOf (s .left) t ≡ 1
-    → outputsAfter P results s t ≡ puts (takes (valueOf results) (task P t .outputs)) (s .outputs)
+    → outputsAfter P results s t ≡ puts (assigned (valueOf results) (task P t .gives)) (s .outputs)
 outputs-done P results s t e = rw (eq-eqb (leftOf (s .left) t) 1 e, outputsAt)
 
 -- in any other tick the local outputs are as before
@@ -28,7 +28,7 @@ outputs-same P results s t n = rw (ne-eqb (leftOf (s .left) t) 1 n, outputsAt)
 pub outputs-length : (P : Program) (results : List ℤ) (s : State) (t : ℕ) → length (outputsAfter P results s t) ≡ length (s .outputs)
 outputs-length P results s t = go (eqb (leftOf (s .left) t) 1)
   where
-    go : (b : Bool) → length {A = ℤ} (elim b [ true ↦ puts (takes (valueOf results) (task P t .outputs)) (s .outputs) | false ↦ s .outputs ])
+    go : (b : Bool) → length {A = ℤ} (elim b [ true ↦ puts (assigned (valueOf results) (task P t .gives)) (s .outputs) | false ↦ s .outputs ])
         ≡ length (s .outputs)
-    go true = puts-length (takes (valueOf results) (task P t .outputs)) (s .outputs)
+    go true = puts-length (assigned (valueOf results) (task P t .gives)) (s .outputs)
     go false = refl

@@ -19,8 +19,8 @@ use Rattle.theory.proofs.Verdict.{Clear, verdict-clear}
 use Rattle.cells.specs.Cell.{numAt}
 use Rattle.cells.specs.Limits.{maxDelay}
 use Rattle.program.specs.Program.{Program, task, driver}
-use Rattle.program.specs.Ports.{valueOf, takes, moves}
-use Rattle.program.proofs.Ports.{takes-miss, moves-miss}
+use Rattle.program.specs.Ports.{valueOf, assigned, moves}
+use Rattle.program.proofs.Ports.{assigned-miss, moves-miss}
 use Rattle.rules.specs.Fields.{inRange, InRange}
 use Rattle.rules.proofs.Fields.{range-says}
 use Rattle.runs.specs.Tick.{leftOf}
@@ -60,8 +60,8 @@ module _ (P : Program) (readings times : List ℤ) (code : List Op) (s : State) 
       → valueOf (called P readings times u c .ports) p ≡ valueOf (u .ports) p
   called-ports u (driverCall d) n p h = puts-other (pos 0) (moves (u .ports) (driver P d)) (u .ports) p (moves-miss (driver P d) (u .ports) p (h .no-destination d))
   called-ports u (outputCall t) n p h =
-      puts-other (pos 0) (takes (valueOf (u .outputs)) (task P t .outputs)) (u .ports) p
-      (takes-miss (valueOf (u .outputs)) (task P t .outputs) p (h .no-output t))
+      puts-other (pos 0) (assigned (valueOf (u .outputs)) (task P t .gives)) (u .ports) p
+      (assigned-miss (valueOf (u .outputs)) (task P t .gives) p (h .not-given t))
   called-ports u (sensorCall q) n p h =
       getD-set-other (u .ports) q p _ (pos 0) (apart p q (P .sensors) (bars-not (says-itself (member q (P .sensors))) .ok n) (h .no-sensor))
 

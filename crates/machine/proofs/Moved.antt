@@ -16,8 +16,8 @@ use Rattle.theory.proofs.Lists.{each-at}
 use Rattle.theory.proofs.Puts.{puts-other}
 use Rattle.cells.specs.Limits.{suppliers}
 use Rattle.program.specs.Program.{Program, task}
-use Rattle.program.specs.Ports.{valueOf, takes}
-use Rattle.program.proofs.Ports.{takes-at, takes-miss}
+use Rattle.program.specs.Ports.{valueOf, assigned}
+use Rattle.program.proofs.Ports.{assigned-at, assigned-miss}
 use Rattle.runs.specs.Tick.{leftOf, work, leftAfter}
 use Rattle.machine.specs.declared.State.{State}
 use Rattle.machine.specs.declared.Handed.{Handed}
@@ -46,16 +46,16 @@ less-at left t = go (decLt t (length left))
         ap (λ (r : List ℕ). leftOf r t) (set-out left t (leftOf left t - 1) (omega (arith, l))) ∙ (z ∙ ap (λ (n : ℕ). n - 1) (sym z))
 
 module _ (P : Program) (results : List ℤ) (s : State) (t : ℕ) where
-  -- a local output of another task stays
-  outputs-miss : (p : ℕ) → member p (task P t .outputs) ≡ false → valueOf (outputsAfter P results s t) p ≡ valueOf (s .outputs) p
+  -- a local output that the task does not give stays
+  outputs-miss : (p : ℕ) → member p (task P t .gives) ≡ false → valueOf (outputsAfter P results s t) p ≡ valueOf (s .outputs) p
   outputs-miss p n = go (eqb (leftOf (s .left) t) 1)
     where
-      go : (b : Bool) → valueOf (elim b [ true ↦ puts (takes (valueOf results) (task P t .outputs)) (s .outputs) | false ↦ s .outputs ]) p ≡ valueOf (s .outputs) p
-      go true = puts-other (pos 0) (takes (valueOf results) (task P t .outputs)) (s .outputs) p (takes-miss (valueOf results) (task P t .outputs) p n)
+      go : (b : Bool) → valueOf (elim b [ true ↦ puts (assigned (valueOf results) (task P t .gives)) (s .outputs) | false ↦ s .outputs ]) p ≡ valueOf (s .outputs) p
+      go true = puts-other (pos 0) (assigned (valueOf results) (task P t .gives)) (s .outputs) p (assigned-miss (valueOf results) (task P t .gives) p n)
       go false = refl
 
-  -- a local output of another task stays, and where the task does not complete, all do
-  outputs-stay : (p : ℕ) → (member p (task P t .outputs) ≡ false) ⊎ (leftOf (s .left) t ≡ 1 → ⊥) → valueOf (outputsAfter P results s t) p ≡ valueOf (s .outputs) p
+  -- a local output that the task does not give stays, and where the task does not complete, all do
+  outputs-stay : (p : ℕ) → (member p (task P t .gives) ≡ false) ⊎ (leftOf (s .left) t ≡ 1 → ⊥) → valueOf (outputsAfter P results s t) p ≡ valueOf (s .outputs) p
   outputs-stay p (inl n) = outputs-miss p n
   outputs-stay p (inr d) = ap (λ (v : List ℤ). valueOf v p) (outputs-same P results s t d)
 
@@ -95,7 +95,7 @@ tick-passes P S results s u = go (running S s) refl
           works = subst (λ (w : Who). Works P results w s v) (sym e) (record {
             nearer = less-at (s .left) t;
             others = λ j d. getD-set-other (s .left) t j (leftOf (s .left) t - 1) 0 d;
-            completes = λ c p l m. ap (λ (v : List ℤ). valueOf v p) (outputs-done P results s t c) ∙ takes-at (valueOf results) (task P t .outputs) (s .outputs) p l m;
+            completes = λ c p l m. ap (λ (v : List ℤ). valueOf v p) (outputs-done P results s t c) ∙ assigned-at (valueOf results) (task P t .gives) (s .outputs) p l m;
             stays = outputs-stay P results s t;
           });
         })

@@ -18,7 +18,7 @@ use Rattle.theory.proofs.Members.{every-member}
 use Rattle.cells.specs.Cell.{numAt}
 use Rattle.cells.specs.Refusals.{shapeRefused, timeRefused, overrunRefused, faultyRefused}
 use Rattle.program.specs.Program.{Program, task}
-use Rattle.program.specs.Ports.{valueOf, takes}
+use Rattle.program.specs.Ports.{valueOf, assigned}
 use Rattle.rules.specs.Fields.{inRange}
 use Rattle.rules.specs.Shape.{badLength}
 use Rattle.rules.specs.Verdict.{tableRefusals}
@@ -141,17 +141,17 @@ module _ (P : Program) (code : List Op) (readings others times times₂ : List �
 
 -- the tick of the schedules from u is the same, if so are the results of the task that completes in it
 same-tick : (P : Program) (S results others : List ℤ) (u : State)
-    → ((t p : ℕ) → running S u ≡ one t → leftOf (u .left) t ≡ 1 → member p (task P t .outputs) ≡ true → valueOf results p ≡ valueOf others p)
+    → ((t p : ℕ) → running S u ≡ one t → leftOf (u .left) t ≡ 1 → member p (task P t .gives) ≡ true → valueOf results p ≡ valueOf others p)
     → tickAll P S results u ≡ tickAll P S others u
 same-tick P S results others u h = go (running S u) refl
   where
     outputs : (t : ℕ) → running S u ≡ one t → (b : Bool) → eqb (leftOf (u .left) t) 1 ≡ b
-        → _≡_ {A = List ℤ} (elim b [ true ↦ puts (takes (valueOf results) (task P t .outputs)) (u .outputs) | false ↦ u .outputs ])
-        (elim b [ true ↦ puts (takes (valueOf others) (task P t .outputs)) (u .outputs) | false ↦ u .outputs ])
+        → _≡_ {A = List ℤ} (elim b [ true ↦ puts (assigned (valueOf results) (task P t .gives)) (u .outputs) | false ↦ u .outputs ])
+        (elim b [ true ↦ puts (assigned (valueOf others) (task P t .gives)) (u .outputs) | false ↦ u .outputs ])
     outputs t r true e =
         ap (λ (w : List Put). puts w (u .outputs))
-        (map-same (λ p. record { place = p; value = valueOf results p }) (λ p. record { place = p; value = valueOf others p }) (task P t .outputs)
-        (every-member _ (task P t .outputs)
+        (map-same (λ p. record { place = p; value = valueOf results p }) (λ p. record { place = p; value = valueOf others p }) (task P t .gives)
+        (every-member _ (task P t .gives)
         (λ p m. ap (λ (x : ℤ). record { place = p; value = x }) (h t p r (eqb-true (leftOf (u .left) t) 1 e) m))))
     outputs t r false e = refl
 

@@ -15,7 +15,7 @@ use Rattle.cells.specs.Limits.{suppliers, maxDelay, firstOutputCall, firstSenso
 use Rattle.cells.specs.Refusals.{timeRefused, overrunRefused, faultyRefused}
 use Rattle.program.specs.Guard.{holds}
 use Rattle.program.specs.Program.{Program, task, driver}
-use Rattle.program.specs.Ports.{valueOf, takes, drive}
+use Rattle.program.specs.Ports.{valueOf, assigned, drive}
 use Rattle.rules.specs.Fields.{inRange, InRange}
 use Rattle.runs.specs.Tick.{leftOf}
 use Rattle.code.specs.Op.{Op, call, schedule, branch, jump, future, return, faulty}
@@ -126,10 +126,10 @@ module _ (P : Program) (readings times : List ℤ) where
       ∷ unplaced overrunRefused (λ a. stillRunning (a .state) o)
       ∷ []
 
-  -- what a call does: a driver copies only when its guard holds; an output copy takes the task's local outputs; a sensor is read
+  -- what a call does: a driver copies only when its guard holds; an output copy takes what the task gave, from beside the local outputs; a sensor is read
   abbrev pub called : State → Call → State
   called s (driverCall d) = withPorts s (drive (driver P d) (s .ports))
-  called s (outputCall t) = withPorts s (puts (takes (valueOf (s .outputs)) (task P t .outputs)) (s .ports))
+  called s (outputCall t) = withPorts s (puts (assigned (valueOf (s .outputs)) (task P t .gives)) (s .ports))
   called s (sensorCall p) = withPorts s (set (s .ports) p (valueOf readings p))
 
   -- the state after `future` at an address: a block begins there

@@ -18,11 +18,11 @@ use Rattle.machine.specs.declared.State.{State}
 use Rattle.machine.specs.Schedules.{Who, nobody, one, several, running}
 use Rattle.machine.specs.Advance.{Advance}
 
--- E code does not write port p: it is no sensor, no driver's destination and no task's output
+-- E code does not write port p: it is no sensor, no driver's destination, and no task gives it
 pub record Untouched (P : Program) (p : ℕ) : Type 0 where
   pub no-sensor : member p (P .sensors) ≡ false
   pub no-destination : (d : ℕ) → member p (map (λ c. c .destination) (driver P d .copies)) ≡ false
-  pub no-output : (t : ℕ) → member p (task P t .outputs) ≡ false
+  pub not-given : (t : ℕ) → member p (task P t .gives) ≡ false
 
 -- the remaining time of task t is as it was; or the task had ended, and is released with the time lent for it
 abbrev pub Released : Program → List ℤ → ℕ → ℕ → ℕ → Type 0
@@ -51,10 +51,10 @@ pub record Worked (P : Program) (results : List ℤ) (t : ℕ) (s u : State) : T
   -- task t is a tick nearer its end, and no other task is
   pub nearer : leftOf (u .left) t ≡ leftOf (s .left) t - 1
   pub others : (j : ℕ) → (j ≡ t → ⊥) → leftOf (u .left) j ≡ leftOf (s .left) j
-  -- where task t completes, its local outputs take its results; no other local output changes, and else none does
-  pub completes : leftOf (s .left) t ≡ 1 → (p : ℕ) → p < length (s .outputs) → member p (task P t .outputs) ≡ true
+  -- where task t completes, what it gives is put beside the local outputs; nothing else there changes, and else nothing does
+  pub completes : leftOf (s .left) t ≡ 1 → (p : ℕ) → p < length (s .outputs) → member p (task P t .gives) ≡ true
       → valueOf (u .outputs) p ≡ valueOf results p
-  pub stays : (p : ℕ) → (member p (task P t .outputs) ≡ false) ⊎ (leftOf (s .left) t ≡ 1 → ⊥)
+  pub stays : (p : ℕ) → (member p (task P t .gives) ≡ false) ⊎ (leftOf (s .left) t ≡ 1 → ⊥)
       → valueOf (u .outputs) p ≡ valueOf (s .outputs) p
 
 -- a tick in which nobody, one task or several run, from s to u

@@ -1,5 +1,5 @@
 -- One tick of all suppliers' schedules: who runs, 18 where two do, and the state after the tick.
--- "A completing task puts its entries of the lent results into its local outputs".
+-- "A completing task puts its entries of the lent results into its local outputs", those of its private ports beside them.
 use Prim.Native.Nat.{ℕ, zero, suc, _+_, _-_, _%_, _^_, _<_}
 use mathlib.Core.Path.{_≡_}
 use mathlib.Core.Bool.{Bool, true, false}
@@ -11,7 +11,7 @@ use Rattle.theory.specs.Lists.{each, puts}
 use Rattle.cells.specs.Limits.{suppliers}
 use Rattle.cells.specs.Refusals.{collisionRefused}
 use Rattle.program.specs.Program.{Program, task}
-use Rattle.program.specs.Ports.{valueOf, takes}
+use Rattle.program.specs.Ports.{valueOf, assigned}
 use Rattle.runs.specs.Tick.{leftOf, Act, rest, work, leftAfter, Place, moved, doing, runsIn}
 use Rattle.runs.specs.Schedule.{blockOf}
 use Rattle.machine.specs.declared.State.{State}
@@ -74,15 +74,15 @@ told several = record { count = 2; job = record { 0 = 0 } }
 abbrev pub sharesOf : List ℤ → State → Shares
 sharesOf S s = record { running = told (running S s); positions = each (movedOf S s) suppliers 0 }
 
--- the local outputs after a tick of task t, which has these output ports and puts its results there where it completes
+-- the local outputs after a tick of task t, which gives these ports and puts its results there where it completes
 abbrev pub outputsAt : List ℕ → List ℤ → State → ℕ → List ℤ
 outputsAt ports results s t = elim (eqb (leftOf (s .left) t) 1) [
-  | true ↦ puts (takes (valueOf results) ports) (s .outputs)
+  | true ↦ puts (assigned (valueOf results) ports) (s .outputs)
   | false ↦ s .outputs
 ]
 
 abbrev pub outputsAfter : Program → List ℤ → State → ℕ → List ℤ
-outputsAfter P results s t = outputsAt (task P t .outputs) results s t
+outputsAfter P results s t = outputsAt (task P t .gives) results s t
 
 -- the state after a tick that leaves these remaining times, outputs and positions: "after 4294967295 comes 0"
 abbrev pub tickPassed : State → List ℕ → List ℤ → List ℕ → State

@@ -55,5 +55,5 @@ pub record Agrees (L : Advance) (X : Lent) : Type 0 where
   pub lengths : SameLengths L X
   pub readings : (p : ℕ) → Reads L p → valueOf (L .lent .readings) p ≡ valueOf (X .readings) p
   pub times : (t : ℕ) → Releases L t → numAt (L .lent .times) t ≡ numAt (X .times) t
-  pub results : (t p : ℕ) → Completes L t → member p (task (program L) t .outputs) ≡ true
+  pub results : (t p : ℕ) → Completes L t → member p (task (program L) t .gives) ≡ true
       → valueOf (L .lent .results) p ≡ valueOf (X .results) p

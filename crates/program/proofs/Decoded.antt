@@ -1,10 +1,10 @@
 -- The program that the tables say: its parts are the tables' rows, by number and those that are due; the next unit.
 -- Assumes of a part by number that it is declared.
 use Prim.Native.Nat.{ℕ, suc, _%_, _<_}
-use mathlib.Core.Path.{_≡_, refl, sym, ap, _∙_}
+use mathlib.Core.Path.{_≡_, refl, sym, ap, subst, _∙_}
 use mathlib.Core.Bool.{Bool, true, false, _&&_}
 use mathlib.Core.List.{map}
-use mathlib.Core.Logic.{_↔_, Iff·trans}
+use mathlib.Core.Logic.{_⊎_, inl, inr, ⊎-elim, _↔_, Iff·trans}
 use native.Mathlib.Nat.{mod-self, mod-eq-of-lt, mod-lt}
 use native.Mathlib.Omega.{arith}
 use lib.Dec.{eqb}
@@ -12,19 +12,19 @@ use lib.ListN.{length}
 use borrow.Author.Tests.{eqb-true, eqb-false, eq-eqb, lt-ltb}
 use Rattle.theory.specs.Claim.{Says}
 use Rattle.theory.specs.Lists.{those, keep, member}
-use Rattle.theory.proofs.Bools.{clash, says-eq, is-true, _and_}
+use Rattle.theory.proofs.Bools.{clash, says-eq, says-as, is-true, _and_}
 use Rattle.theory.proofs.Lists.{each-length, each-at, every-each, every-at, keep-those, those-same, map-those}
 use Rattle.theory.proofs.Members.{Has, has-those, has-keep, has-map, member-says}
-use Rattle.program.specs.Tables.{Tables, portCount, output, taskCount, taskPortCount, taskPortTask, taskPortPort, driverCount}
+use Rattle.program.specs.Tables.{Tables, portCount, taskCount, taskPortCount, taskPortTask, taskPortPort, driverCount}
 use Rattle.program.specs.Tables.{copyCount, copyDriver, modeCount, invocationWidth, invocationCount, invocationMode}
 use Rattle.program.specs.Tables.{invocationFrequency, invocationTask, updateWidth, updateCount, updateMode, updateFrequency}
 use Rattle.program.specs.Tables.{switchWidth, switchCount, switchMode, switchFrequency}
-use Rattle.program.specs.Sets.{isKind, OfKind, sensorRows}
+use Rattle.program.specs.Sets.{isKind, mayTake, mayGive, MayTake, MayGive, TaskPort, Takes, Gives, sensorRows}
 use Rattle.program.specs.Units.{units, due, rowDue, dueRows}
 use Rattle.program.specs.Program.{Copy, Task, Invocation, Update, Switch, Mode, copyRow, driverRow, portsOf, taskRow, invocationRow}
 use Rattle.program.specs.Program.{updateRow, switchRow, modeRow, programOf, task, driver, mode, nextUnit, dueInvocations}
 use Rattle.program.specs.Program.{dueUpdates, dueSwitches, dueTasks}
-use Rattle.program.proofs.Sets.{kind-says}
+use Rattle.program.proofs.Sets.{may-take-says, may-give-says}
 
 -- the unit after one of a mode's units, around the round
 pub next-around : (M : Mode) (k : ℕ) → k < M .units → nextUnit M k ≡ suc k % M .units
@@ -48,6 +48,11 @@ next-once M k l = go (eqb (suc k) (M .units)) (eqb (suc l) (M .units)) refl refl
     go true false p q e = absurd (omega arith)
     go false true p q e = absurd (omega arith)
     go false false p q e = omega arith
+
+-- of one of two kinds and of a task: of the one kind and of the task, or of the other
+either-port : {A B C : Type 0} → (A ⊎ B) × C → (A × C) ⊎ (B × C)
+either-port (inl a, c) = inl (a, c)
+either-port (inr b, c) = inr (b, c)
 
 module _ (T : Tables) where
   -- the program has as many tasks, drivers and modes as the tables have rows
@@ -86,26 +91,46 @@ module _ (T : Tables) where
         λ w. r .1 (w .0, w .1, eq-eqb (copyDriver T (w .0)) d (w .2), w .3),
       )
 
-  -- some port of this kind of a task has Q exactly where some row of the task ports of that task and kind has
-  pub has-ports : (Q : ℕ → Type 0) (kind t : ℕ)
-      → Has Q (portsOf T kind t)
-      ↔ ((k : ℕ) × (k < taskPortCount T) × ((taskPortTask T k ≡ t) × OfKind T kind (taskPortPort T k)) × Q (taskPortPort T k))
-  has-ports Q kind t =
-      let r = has-those Q (λ k. eqb (taskPortTask T k) t && isKind T kind (taskPortPort T k)) (taskPortPort T) (taskPortCount T) in (
+  -- some port of a task that passes has Q exactly where some row of the task ports of that task, whose port passes, has
+  pub has-ports : (Q G : ℕ → Type 0) (passes : ℕ → Bool) (t : ℕ) → ((p : ℕ) → Says (passes p) (G p))
+      → Has Q (portsOf T passes t)
+      ↔ ((k : ℕ) × (k < taskPortCount T) × ((taskPortTask T k ≡ t) × G (taskPortPort T k)) × Q (taskPortPort T k))
+  has-ports Q G passes t says =
+      let r = has-those Q (λ k. eqb (taskPortTask T k) t && passes (taskPortPort T k)) (taskPortPort T) (taskPortCount T) in (
         λ h. let w = r .0 h in (w .0, w .1, test (w .0) .yes (w .2), w .3),
         λ w. r .1 (w .0, w .1, is-true (test (w .0)) (w .2), w .3),
       )
     where
-      test : (k : ℕ) → Says (eqb (taskPortTask T k) t && isKind T kind (taskPortPort T k)) ((taskPortTask T k ≡ t) × OfKind T kind (taskPortPort T k))
-      test k = says-eq (taskPortTask T k) t and kind-says T kind (taskPortPort T k)
+      test : (k : ℕ) → Says (eqb (taskPortTask T k) t && passes (taskPortPort T k)) ((taskPortTask T k ≡ t) × G (taskPortPort T k))
+      test k = says-eq (taskPortTask T k) t and says (taskPortPort T k)
 
-  -- an output of a task, of whatever number, is a declared output port
-  pub output-declared : (t p : ℕ) → member p (task (programOf T) t .outputs) ≡ true → OfKind T output p
-  output-declared t p =
-      every-at (λ (K : Task). member p (K .outputs) ≡ true → OfKind T output p) (programOf T .tasks) _ (λ m. clash {b = false} m refl)
+  -- a port stands among the ports of a task that pass exactly where it passes and is one of the task's
+  has-port : (G : ℕ → Type 0) (passes : ℕ → Bool) (t p : ℕ) → ((p : ℕ) → Says (passes p) (G p))
+      → Says (member p (portsOf T passes t)) (G p × TaskPort T t p)
+  has-port G passes t p says =
+      let r = has-ports (λ x. p ≡ x) G passes t says in
+      says-as (member-says p (portsOf T passes t))
+      (λ h. let (k, l, (e, q), s) = r .0 h in (subst G (sym s) q, (k, l, (e, sym s))))
+      (λ (g, (k, l, (e, s))). r .1 (k, l, (e, subst G (sym s) g), sym s))
+
+  -- a declared task takes a port exactly where the port is an input or a private port of it
+  pub takes-says : (t p : ℕ) → t < taskCount T → Says (member p (task (programOf T) t .takes)) (Takes T t p)
+  takes-says t p l =
+      subst (λ (K : Task). Says (member p (K .takes)) (Takes T t p)) (sym (task-row t l))
+      (says-as (has-port (MayTake T) (mayTake T) t p (may-take-says T)) either-port (⊎-elim (λ i. (inl (i .0), i .1)) (λ i. (inr (i .0), i .1))))
+
+  -- a declared task gives a port exactly where the port is an output or a private port of it
+  pub gives-says : (t p : ℕ) → t < taskCount T → Says (member p (task (programOf T) t .gives)) (Gives T t p)
+  gives-says t p l =
+      subst (λ (K : Task). Says (member p (K .gives)) (Gives T t p)) (sym (task-row t l))
+      (says-as (has-port (MayGive T) (mayGive T) t p (may-give-says T)) either-port (⊎-elim (λ i. (inl (i .0), i .1)) (λ i. (inr (i .0), i .1))))
+
+  -- a port that a task gives, of whatever number the task is, is declared
+  pub given-declared : (t p : ℕ) → member p (task (programOf T) t .gives) ≡ true → p < portCount T
+  given-declared t p =
+      every-at (λ (K : Task). member p (K .gives) ≡ true → p < portCount T) (programOf T .tasks) _ (λ m. clash {b = false} m refl)
       (every-each _ (taskRow T) (taskCount T) 0
-      (λ i l u m.
-      let (k, h, (e, q), s) = has-ports (λ x. p ≡ x) output i .0 (member-says p (portsOf T output i) .yes m) in rw s q)) t
+      (λ i l u m. ⊎-elim (λ o. o .0) (λ o. o .0) (has-port (MayGive T) (mayGive T) i p (may-give-says T) .yes m .0))) t
 
   -- the due rows of a mode are the due rows of the tables
   pub due-invocations : (m k : ℕ) → dueInvocations (modeRow T m) k ≡ dueRows invocationWidth (T .invocations) m (units T m) k (invocationRow T)

@@ -1,5 +1,5 @@
 -- What a driver's moves and a task's outputs write, as assignments to the ports.
--- Assumes of `takes-at` that the port lies inside.
+-- Assumes of `assigned-at` that the port lies inside.
 use Prim.Native.Nat.{ℕ, _<_}
 use mathlib.Core.Path.{_≡_, refl, ap, sym, _∙_}
 use mathlib.Core.Bool.{Bool, true, false}
@@ -13,30 +13,30 @@ use Rattle.theory.proofs.Members.{Has, has-then, has-as, has-map, has-gather, m
 use Rattle.theory.proofs.Puts.{Wrote, puts-at}
 use Rattle.program.specs.Guard.{holds}
 use Rattle.program.specs.Program.{Driver}
-use Rattle.program.specs.Ports.{valueOf, takes, copyPuts, moves}
+use Rattle.program.specs.Ports.{valueOf, assigned, copyPuts, moves}
 
 -- ports that take values each get their own
-pub wrote-takes : (value : ℕ → ℤ) (ps : List ℕ) (p : ℕ) (x : ℤ) → Wrote (takes value ps) p x ↔ Has (λ q. (q ≡ p) × (x ≡ value q)) ps
-wrote-takes value ps p x = has-map (λ a. (a .place ≡ p) × (x ≡ a .value)) (λ q. record { place = q; value = value q }) ps
+pub wrote-assigned : (value : ℕ → ℤ) (ps : List ℕ) (p : ℕ) (x : ℤ) → Wrote (assigned value ps) p x ↔ Has (λ q. (q ≡ p) × (x ≡ value q)) ps
+wrote-assigned value ps p x = has-map (λ a. (a .place ≡ p) × (x ≡ a .value)) (λ q. record { place = q; value = value q }) ps
 
 -- port p gets x exactly where it is one of the ports that take values, and x its value
-pub takes-exactly : (value : ℕ → ℤ) (ps : List ℕ) (p : ℕ) (x : ℤ) → Wrote (takes value ps) p x ↔ ((member p ps ≡ true) × (x ≡ value p))
-takes-exactly value ps p x = (
+pub assigned-exactly : (value : ℕ → ℤ) (ps : List ℕ) (p : ℕ) (x : ℤ) → Wrote (assigned value ps) p x ↔ ((member p ps ≡ true) × (x ≡ value p))
+assigned-exactly value ps p x = (
   λ w.
-      let h = wrote-takes value ps p x .0 w in
+      let h = wrote-assigned value ps p x .0 w in
       (is-true (member-says p ps) (has-as _ _ ps (λ q e. sym (e .0)) h), has-then _ ps (λ q e. e .1 ∙ ap value (e .0)) h),
-  λ (m, e). wrote-takes value ps p x .1 (has-as _ _ ps (λ q d. (sym d, e ∙ ap value d)) (member-says p ps .yes m)),
+  λ (m, e). wrote-assigned value ps p x .1 (has-as _ _ ps (λ q d. (sym d, e ∙ ap value d)) (member-says p ps .yes m)),
 )
 
 -- each port that takes a value has it afterwards
-pub takes-at : (value : ℕ → ℤ) (ps : List ℕ) (v : List ℤ) (p : ℕ) → p < length v → member p ps ≡ true → valueOf (puts (takes value ps) v) p ≡ value p
-takes-at value ps v p l m =
-    puts-at (pos 0) (takes value ps) v p (value p) l
-    (takes-exactly value ps p (value p) .1 (m, refl)) (λ y w. takes-exactly value ps p y .0 w .1)
+pub assigned-at : (value : ℕ → ℤ) (ps : List ℕ) (v : List ℤ) (p : ℕ) → p < length v → member p ps ≡ true → valueOf (puts (assigned value ps) v) p ≡ value p
+assigned-at value ps v p l m =
+    puts-at (pos 0) (assigned value ps) v p (value p) l
+    (assigned-exactly value ps p (value p) .1 (m, refl)) (λ y w. assigned-exactly value ps p y .0 w .1)
 
 -- a port that is none of those that take values is not written
-pub takes-miss : (value : ℕ → ℤ) (ps : List ℕ) (p : ℕ) → member p ps ≡ false → (x : ℤ) → Wrote (takes value ps) p x → ⊥
-takes-miss value ps p n x w = clash (takes-exactly value ps p x .0 w .0) n
+pub assigned-miss : (value : ℕ → ℤ) (ps : List ℕ) (p : ℕ) → member p ps ≡ false → (x : ℤ) → Wrote (assigned value ps) p x → ⊥
+assigned-miss value ps p n x w = clash (assigned-exactly value ps p x .0 w .0) n
 
 -- a driver writes only its destinations
 pub moves-miss : (D : Driver) (v : List ℤ) (p : ℕ) → member p (map (λ c. c .destination) (D .copies)) ≡ false → (x : ℤ) → Wrote (moves v D) p x → ⊥

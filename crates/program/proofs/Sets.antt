@@ -3,15 +3,24 @@ use Prim.Native.Nat.{ℕ}
 use Rattle.theory.specs.Claim.{Says}
 use Rattle.theory.proofs.Bools.{says-or, says-eq, says-lt, _and_}
 use Rattle.theory.proofs.Search.{any-says}
-use Rattle.program.specs.Tables.{Tables, input, output}
-use Rattle.program.specs.Sets.{isKind, isTaskPort, modePortAt, isInput, isOutput, isModePort, copiesFrom, copiesTo, isSource}
-use Rattle.program.specs.Sets.{isDestination, OfKind, Input, Output, ModePort, Source, Destination}
+use Rattle.program.specs.Tables.{Tables, input, output, private}
+use Rattle.program.specs.Sets.{isKind, isTaskPort, modePortAt, mayTake, mayGive, isInput, isOutput, isModePort, copiesFrom, copiesTo}
+use Rattle.program.specs.Sets.{isSource, isDestination, OfKind, MayTake, MayGive, Input, Output, ModePort, Source, Destination}
 
 module _ (T : Tables) where
   -- the test says that port p is declared and of the kind
   pub kind-says : (k p : ℕ) → Says (isKind T k p) (OfKind T k p)
   unfolding isKind
   kind-says k p = says-lt _ _ and says-eq _ _
+
+  -- the tests say that port p is one that a task takes, one that it gives
+  pub may-take-says : (p : ℕ) → Says (mayTake T p) (MayTake T p)
+  unfolding mayTake
+  may-take-says p = says-or (kind-says input p) (kind-says private p)
+
+  pub may-give-says : (p : ℕ) → Says (mayGive T p) (MayGive T p)
+  unfolding mayGive
+  may-give-says p = says-or (kind-says output p) (kind-says private p)
 
   -- the test says that port p is an input of task t
   pub input-says : (t p : ℕ) → Says (isInput T t p) (Input T t p)

@@ -1,4 +1,4 @@
--- Port values, as a list of the 64 ports; what a driver and a task's outputs do to them.
+-- Port values, as a list of the 64 ports; what a driver and what a task gives do to them.
 use Prim.Native.Nat.{ℕ}
 use mathlib.Core.Bool.{true, false}
 use mathlib.Core.List.{List, [], map}
@@ -16,8 +16,8 @@ abbrev pub valuesOf : List ℤ → List ℕ → List ℤ
 valuesOf v ps = map (valueOf v) ps
 
 -- the assignments that these ports take these values
-abbrev pub takes : (ℕ → ℤ) → List ℕ → List Put
-takes value ps = map (λ p. record { place = p; value = value p }) ps
+abbrev pub assigned : (ℕ → ℤ) → List ℕ → List Put
+assigned value ps = map (λ p. record { place = p; value = value p }) ps
 
 -- what a driver's copies move where the ports have the values v
 abbrev pub copyPuts : List ℤ → Driver → List Put

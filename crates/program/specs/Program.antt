@@ -1,14 +1,14 @@
 -- A program as 001 has it (section 3.1), decoded from its tables: tasks, drivers and modes with their parts.
 -- Every list is in table order.
 use Prim.Native.Nat.{ℕ, suc, _/_}
-use mathlib.Core.Bool.{true, false, _&&_}
+use mathlib.Core.Bool.{Bool, true, false, _&&_}
 use mathlib.Core.List.{List, [], map}
 use lib.Dec.{eqb}
 use lib.IntN.{ℤ}
 use lib.ListN.{getD}
 use Rattle.theory.specs.Lists.{those, each, keep}
 use Rattle.cells.specs.Limits.{maxPorts}
-use Rattle.program.specs.Tables.{Tables, startMode, portCount, portFirst, sensor, input, output, taskCount, taskSupplier, taskWorst}
+use Rattle.program.specs.Tables.{Tables, startMode, portCount, portFirst, sensor, taskCount, taskSupplier, taskWorst}
 use Rattle.program.specs.Tables.{taskPortCount, taskPortTask, taskPortPort, driverCount, copyCount, copyDriver, copySource}
 use Rattle.program.specs.Tables.{copyDestination}
 use Rattle.program.specs.Tables.{modeCount, modePeriod, modePortCount, modePortMode, modePortPort, invocationCount, invocationMode}
@@ -17,7 +17,7 @@ use Rattle.program.specs.Tables.{invocationTask, invocationDriver, updat
 use Rattle.program.specs.Tables.{switchCount, switchMode}
 use Rattle.program.specs.Tables.{switchFrequency, switchTarget, switchDriver}
 use Rattle.program.specs.Guard.{Guard, always, guardOf}
-use Rattle.program.specs.Sets.{isKind}
+use Rattle.program.specs.Sets.{isKind, mayTake, mayGive}
 use Rattle.program.specs.Units.{units, due}
 
 pub record Copy : Type 0 where
@@ -29,12 +29,12 @@ pub record Driver : Type 0 where
   pub guard : Guard
   pub copies : List Copy
 
--- a task (t, In, Out) of 001, with what document 01 adds
+-- a task (t, In, Out, Priv, f) of 001, with what document 01 adds: f takes In ∪ Priv and gives Out ∪ Priv
 pub record Task : Type 0 where
   pub supplier : ℕ
   pub worst : ℕ
-  pub inputs : List ℕ
-  pub outputs : List ℕ
+  pub takes : List ℕ
+  pub gives : List ℕ
 
 pub record Invocation : Type 0 where
   pub frequency : ℕ
@@ -75,11 +75,18 @@ copyRow T c = record { source = copySource T c; destination = copyDestination T 
 abbrev pub driverRow : Tables → ℕ → Driver
 driverRow T d = record { guard = guardOf T d; copies = those (λ c. eqb (copyDriver T c) d) (copyRow T) (copyCount T) 0 }
 
-abbrev pub portsOf : Tables → ℕ → ℕ → List ℕ
-portsOf T kind t = those (λ k. eqb (taskPortTask T k) t && isKind T kind (taskPortPort T k)) (taskPortPort T) (taskPortCount T) 0
+-- the ports of task t that pass
+abbrev pub portsOf : Tables → (ℕ → Bool) → ℕ → List ℕ
+portsOf T passes t = those (λ k. eqb (taskPortTask T k) t && passes (taskPortPort T k)) (taskPortPort T) (taskPortCount T) 0
 
 abbrev pub taskRow : Tables → ℕ → Task
-taskRow T t = record { supplier = taskSupplier T t; worst = taskWorst T t; inputs = portsOf T input t; outputs = portsOf T output t }
+taskRow T t =
+    record {
+      supplier = taskSupplier T t;
+      worst = taskWorst T t;
+      takes = portsOf T (mayTake T) t;
+      gives = portsOf T (mayGive T) t;
+    }
 
 abbrev pub invocationRow : Tables → ℕ → Invocation
 invocationRow T i = record { frequency = invocationFrequency T i; task = invocationTask T i; driver = invocationDriver T i }
@@ -112,7 +119,7 @@ programOf T = record {
 
 -- a task, driver or mode by its number; one without parts where there is none
 abbrev pub task : Program → ℕ → Task
-task P t = getD (P .tasks) t (record { supplier = 0; worst = 0; inputs = []; outputs = [] })
+task P t = getD (P .tasks) t (record { supplier = 0; worst = 0; takes = []; gives = [] })
 
 abbrev pub driver : Program → ℕ → Driver
 driver P d = getD (P .drivers) d (record { guard = always; copies = [] })

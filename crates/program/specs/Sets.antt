@@ -1,5 +1,5 @@
--- The sets of 001 that the tables declare: ports by kind, inputs and outputs of a task, mode ports, sources and destinations
--- of a driver. Each twice: as a test, and as a claim with its quantifier over rows.
+-- The sets of 001 that the tables declare: ports by kind, inputs, outputs and private ports of a task, mode ports, sources and
+-- destinations of a driver. Each twice: as a test, and as a claim with its quantifier over rows.
 use Prim.Native.Nat.{ℕ, _<_}
 use mathlib.Core.Path.{_≡_}
 use mathlib.Core.Bool.{Bool, _&&_, _||_}
@@ -10,13 +10,21 @@ use lib.IntN.{ℤ}
 use Rattle.theory.specs.Search.{any}
 use Rattle.theory.specs.Lists.{those}
 use Rattle.cells.specs.Cell.{rowsIn, fieldAt}
-use Rattle.program.specs.Tables.{Tables, portWidth, portCount, portKind, sensor, actuator, input, output, taskPortCount, taskPortTask}
-use Rattle.program.specs.Tables.{taskPortPort, guardKind, guardPort, kindInterval, copyCount, copyDriver, copySource, copyDestination}
+use Rattle.program.specs.Tables.{Tables, portWidth, portCount, portKind, sensor, actuator, input, output, private, taskPortCount}
+use Rattle.program.specs.Tables.{taskPortTask, taskPortPort, guardKind, guardPort, kindInterval, copyCount, copyDriver, copySource, copyDestination}
 use Rattle.program.specs.Tables.{modePortCount, modePortMode, modePortPort}
 
 -- port p is declared and of this kind
 unfoldable pub isKind : Tables → ℕ → ℕ → Bool
 isKind T kind p = ltb p (portCount T) && eqb (portKind T p) kind
+
+-- The two questions of a port's kind that are asked for a task: its function takes the values of inputs and private ports, and gives a
+-- value for each output and private port.
+unfoldable pub mayTake : Tables → ℕ → Bool
+mayTake T p = isKind T input p || isKind T private p
+
+unfoldable pub mayGive : Tables → ℕ → Bool
+mayGive T p = isKind T output p || isKind T private p
 
 -- row k of the task ports says that task t has port p; row k of the mode ports says that mode m has port p
 unfoldable pub isTaskPort : Tables → ℕ → ℕ → ℕ → Bool
@@ -68,15 +76,32 @@ Sensor T = OfKind T sensor
 abbrev pub Actuator : Tables → ℕ → Type 0
 Actuator T = OfKind T actuator
 
+-- port p is one that a task's function takes, an input or a private port; one that it gives, an output or a private port
+abbrev pub MayTake : Tables → ℕ → Type 0
+MayTake T p = OfKind T input p ⊎ OfKind T private p
+
+abbrev pub MayGive : Tables → ℕ → Type 0
+MayGive T p = OfKind T output p ⊎ OfKind T private p
+
 abbrev pub TaskPort : Tables → ℕ → ℕ → Type 0
 TaskPort T t p = (k : ℕ) × (k < taskPortCount T) × ((taskPortTask T k ≡ t) × (taskPortPort T k ≡ p))
 
--- port p is in In[t] of 001; port p is in Out[t]
+-- port p is in In[t] of 001; in Out[t]; in Priv[t]
 abbrev pub Input : Tables → ℕ → ℕ → Type 0
 Input T t p = OfKind T input p × TaskPort T t p
 
 abbrev pub Output : Tables → ℕ → ℕ → Type 0
 Output T t p = OfKind T output p × TaskPort T t p
+
+abbrev pub Private : Tables → ℕ → ℕ → Type 0
+Private T t p = OfKind T private p × TaskPort T t p
+
+-- task t takes port p: it is in In[t] ∪ Priv[t]; task t gives port p: it is in Out[t] ∪ Priv[t]
+abbrev pub Takes : Tables → ℕ → ℕ → Type 0
+Takes T t p = Input T t p ⊎ Private T t p
+
+abbrev pub Gives : Tables → ℕ → ℕ → Type 0
+Gives T t p = Output T t p ⊎ Private T t p
 
 -- port p is in ModePorts[m] of 001
 abbrev pub ModePort : Tables → ℕ → ℕ → Type 0

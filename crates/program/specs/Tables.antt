@@ -100,7 +100,7 @@ tablesIn slices start =
     (tableAt slices copiesAt) (tableAt slices modesAt) (tableAt slices modePortsAt) (tableAt slices invocationsAt)
     (tableAt slices updatesAt) (tableAt slices switchesAt) start
 
--- ports, counted, and by row: kind (0 sensor, 1 actuator, 2 task input, 3 task output), first value
+-- ports, counted, and by row: kind (0 sensor, 1 actuator, 2 task input, 3 task output, 4 private), first value
 abbrev pub portCount : Tables → ℕ
 portCount T = rowsIn portWidth (T .ports)
 
@@ -121,6 +121,9 @@ input = 2
 
 abbrev pub output : ℕ
 output = 3
+
+abbrev pub private : ℕ
+private = 4
 
 -- tasks, counted, and by row: supplier 0..7, worst-case time 1..4,096
 abbrev pub taskCount : Tables → ℕ

@@ -4,7 +4,8 @@ ghost use lib.Dec.{eqb};
 ghost use Rattle.theory.specs.Search.{any};
 ghost use Rattle.cells.specs.Cell.{Column};
 ghost use Rattle.program.specs.Tables.{Tables, modeColumn, rowMode};
-ghost use Rattle.program.specs.Sets.{isKind, isTaskPort, isInput, isOutput, modePortAt, isModePort, copiesTo, isDestination};
+ghost use Rattle.program.specs.Sets.{isKind, mayTake, mayGive, isTaskPort, isInput, isOutput, modePortAt, isModePort};
+ghost use Rattle.program.specs.Sets.{copiesTo, isDestination};
 use cells::columns::copy;
 use cells::columns::mode_port;
 use cells::columns::port;
@@ -22,6 +23,20 @@ pub fn is_kind(ports: &[i32], kind: usize, p: Port) -> bool
     ensures { λ r. ⌜ ((T : Tables) → T .ports ≡ now (ports .entry) → r ≡ isKind T kind (p .0)) ⌝ }
 {
     ports::declared(ports, p) & (ports::kind(ports, p) == kind)
+}
+
+// Port p is one that a task takes: an input or a private port.
+pub fn may_take(ports: &[i32], p: Port) -> bool
+    ensures { λ r. ⌜ ((T : Tables) → T .ports ≡ now (ports .entry) → r ≡ mayTake T (p .0)) ⌝ }
+{
+    is_kind(ports, port::INPUT, p) | is_kind(ports, port::PRIVATE, p)
+}
+
+// Port p is one that a task gives: an output or a private port.
+pub fn may_give(ports: &[i32], p: Port) -> bool
+    ensures { λ r. ⌜ ((T : Tables) → T .ports ≡ now (ports .entry) → r ≡ mayGive T (p .0)) ⌝ }
+{
+    is_kind(ports, port::OUTPUT, p) | is_kind(ports, port::PRIVATE, p)
 }
 
 // Row k of the task ports says that task t has port p.

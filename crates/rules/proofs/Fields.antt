@@ -10,7 +10,7 @@ use Rattle.theory.proofs.Verdict.{Rowed, bars-rows}
 use Rattle.theory.proofs.Order.{leZ-says}
 use Rattle.cells.proofs.Ints.{eqZ-says}
 use Rattle.readings.proofs.Readings.{missing-says, value-says}
-use Rattle.program.specs.Tables.{Tables, portKind, output, guardLow, guardHigh, modeCount, startMode, startAt}
+use Rattle.program.specs.Tables.{Tables, portKind, private, guardLow, guardHigh, modeCount, startMode, startAt}
 use Rattle.rules.specs.Fields.{inRange, InRange, portBad, taskBad, TaskFits, taskPortBad, TaskPortFits, alwaysFits, AlwaysFits}
 use Rattle.rules.specs.Fields.{intervalFits, IntervalFits, driverBad, copyBad, CopyFits, modeBad, modePortBad, ModePortFits}
 use Rattle.rules.specs.Fields.{invocationBad, InvocationFits, updateBad, UpdateFits, switchBad, SwitchFits, startBad, fieldTests}
@@ -102,7 +102,7 @@ module _ (T : Tables) where
       joined = (
         refl,
         refl,
-        λ p h w. bars-lt output (portKind T p),
+        λ p h w. bars-lt private (portKind T p),
         omega arith,
         (
           refl,

@@ -1,5 +1,5 @@
 -- Number 1: a slice's test bars whole rows within the limit.
-use Prim.Native.Nat.{ℕ, _/_, _%_, _≤_}
+use Prim.Native.Nat.{ℕ, _/_, _%_, _≤_, _<_}
 use mathlib.Core.Path.{_≡_, ap, _∙_}
 use mathlib.Core.Bool.{false}
 use mathlib.Core.List.{List}
@@ -10,8 +10,9 @@ use lib.ListN.{length}
 use denote.Ref.{RefT}
 use Rattle.theory.specs.Claim.{Bars}
 use Rattle.theory.proofs.Bools.{says-eq, bars-not, bars-as, bars-says, _or_, bars-lt}
-use Rattle.cells.specs.Limits.{maxPorts, maxTasks}
-use Rattle.program.specs.Tables.{Tables, tablesIn, portWidth, portCount, taskWidth, taskCount, modeCount}
+use Rattle.cells.specs.Cell.{unnamed}
+use Rattle.cells.specs.Limits.{maxPorts, maxTasks, maxDrivers, maxModes}
+use Rattle.program.specs.Tables.{Tables, tablesIn, portWidth, portCount, taskWidth, taskCount, driverWidth, driverCount, modeWidth, modeCount}
 use Rattle.rules.specs.Shape.{badSlice, badLength, WholeRows, shapeBad, Shaped, InShape}
 
 -- whole rows within a limit are no more rows than the limit
@@ -77,3 +78,19 @@ tasks-few T s = whole-few taskWidth maxTasks (T .tasks) (s .tasks)
 pub any-start : (lent : List (RefT (List ℤ))) (start : ℤ) → shapeBad (tablesIn lent start) ≡ false → InShape lent
 unfolding shapeBad
 any-start lent start e z = e
+
+-- a program in shape has fewer ports than a kind can name
+pub ports-nameable : (T : Tables) → shapeBad T ≡ false → portCount T < unnamed
+ports-nameable T e = omega (arith, ports-few T (shape-bars T .ok e))
+
+-- a program in shape has fewer tasks than a kind can name
+pub tasks-nameable : (T : Tables) → shapeBad T ≡ false → taskCount T < unnamed
+tasks-nameable T e = omega (arith, tasks-few T (shape-bars T .ok e))
+
+-- a program in shape has fewer drivers than a kind can name
+pub drivers-nameable : (T : Tables) → shapeBad T ≡ false → driverCount T < unnamed
+drivers-nameable T e = omega (arith, whole-few driverWidth maxDrivers (T .drivers) (shape-bars T .ok e .drivers))
+
+-- a program in shape has fewer modes than a kind can name
+pub modes-nameable : (T : Tables) → shapeBad T ≡ false → modeCount T < unnamed
+modes-nameable T e = omega (arith, whole-few modeWidth maxModes (T .modes) (shape-bars T .ok e .modes))

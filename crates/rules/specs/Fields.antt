@@ -15,7 +15,7 @@ use Rattle.readings.specs.Reading.{isMissing, noReading, Value, isValue}
 use Rattle.cells.specs.Limits.{suppliers, maxWorst, maxPeriod, maxFrequency}
 use Rattle.program.specs.Tables.{portsAt, tasksAt, taskPortsAt, driversAt, copiesAt, modesAt, modePortsAt, invocationsAt, updatesAt}
 use Rattle.program.specs.Tables.{switchesAt, startAt}
-use Rattle.program.specs.Tables.{Tables, portCount, portKind, output, taskCount, taskSupplier, taskWorst, taskPortCount, taskPortTask}
+use Rattle.program.specs.Tables.{Tables, portCount, portKind, private, taskCount, taskSupplier, taskWorst, taskPortCount, taskPortTask}
 use Rattle.program.specs.Tables.{taskPortPort}
 use Rattle.program.specs.Tables.{driverCount, guardKind, guardPort, guardLow, guardHigh, kindAlways, kindInterval, copyCount, copyDriver}
 use Rattle.program.specs.Tables.{copySource, copyDestination, modeCount, modePeriod, modePortCount, modePortMode, modePortPort}
@@ -32,9 +32,9 @@ inRange n limit = leb 1 n && leb n limit
 abbrev pub InRange : ℕ → ℕ → Type 0
 InRange n limit = (1 ≤ n) × (n ≤ limit)
 
--- the kind of port p is none of 0 to 3
+-- the kind of port p is none of 0 to 4
 unfoldable pub portBad : Tables → ℕ → Bool
-portBad T p = ltb output (portKind T p)
+portBad T p = ltb private (portKind T p)
 
 -- the supplier of task t is none of 0..7, or its worst-case time none of 1..4,096
 unfoldable pub taskBad : Tables → ℕ → Bool
@@ -184,7 +184,7 @@ fieldsBad T = someBad (fieldTests T)
 
 -- rule 2: every row of every table is in range and names what is declared, and so does the start mode
 pub record Fields (T : Tables) : Type 0 where
-  pub ports : (p : ℕ) → p < portCount T → portKind T p ≤ output
+  pub ports : (p : ℕ) → p < portCount T → portKind T p ≤ private
   pub tasks : (t : ℕ) → t < taskCount T → TaskFits T t
   pub task-ports : (k : ℕ) → k < taskPortCount T → TaskPortFits T k
   pub drivers : (d : ℕ) → d < driverCount T → AlwaysFits T d ⊎ IntervalFits T d
@@ -199,7 +199,7 @@ pub record Fields (T : Tables) : Type 0 where
 -- rule 2, row by row
 abbrev pub fieldRules : Tables → List RowRules
 fieldRules T =
-    asking portsAt (portCount T) (λ p. portKind T p ≤ output)
+    asking portsAt (portCount T) (λ p. portKind T p ≤ private)
     ∷ asking tasksAt (taskCount T) (TaskFits T)
     ∷ asking taskPortsAt (taskPortCount T) (TaskPortFits T)
     ∷ asking driversAt (driverCount T) (λ d. AlwaysFits T d ⊎ IntervalFits T d)

@@ -20,12 +20,10 @@ use Rattle.cells.specs.Cell.{unnamed, nameOf}
 use Rattle.cells.specs.Limits.{tableCount, maxPorts, maxTasks, maxTaskPorts, maxDrivers, maxCopies, maxModes}
 use Rattle.cells.specs.Limits.{maxModePorts, maxInvocations, maxUpdates, maxSwitches}
 use Rattle.cells.proofs.Names.{name-small}
-use Rattle.program.specs.Tables.{Tables, tableAt, tablesIn, rowsAt, portWidth, portCount, taskWidth, taskCount, driverWidth, driverCount}
-use Rattle.program.specs.Tables.{modeWidth, modeCount}
+use Rattle.program.specs.Tables.{Tables, tableAt, tablesIn, rowsAt, modeCount}
 use Rattle.program.proofs.Places.{widths}
 use Rattle.rules.specs.Shape.{badSlice, shapeBad}
 use Rattle.rules.specs.Fields.{fieldTests}
-use Rattle.rules.proofs.Shape.{whole-few, shape-bars}
 use Rattle.rules_1_2.specs.Rows.{testsByTable, rowBad, startTests}
 
 -- what the test of a table says of a row is what the test of its place says
@@ -40,22 +38,6 @@ pub kind-at : (T : Tables) (place row : ℕ) {k name : ℕ} {b : Bool} → place
 kind-at T place row {k} e few l m h =
     let same : rowsAt T place ≡ rowsAt T k = ap (rowsAt T) e in
     row-at T place row e (h ∙ ap (getD (testsByTable T) k (λ j. false)) (m ∙ name-small row (omega (arith, few, l, same))))
-
--- a program in shape has fewer ports than a kind can name
-pub ports-nameable : (T : Tables) → shapeBad T ≡ false → portCount T < unnamed
-ports-nameable T e = omega (arith, whole-few portWidth maxPorts (T .ports) (shape-bars T .ok e .ports))
-
--- a program in shape has fewer tasks than a kind can name
-pub tasks-nameable : (T : Tables) → shapeBad T ≡ false → taskCount T < unnamed
-tasks-nameable T e = omega (arith, whole-few taskWidth maxTasks (T .tasks) (shape-bars T .ok e .tasks))
-
--- a program in shape has fewer drivers than a kind can name
-pub drivers-nameable : (T : Tables) → shapeBad T ≡ false → driverCount T < unnamed
-drivers-nameable T e = omega (arith, whole-few driverWidth maxDrivers (T .drivers) (shape-bars T .ok e .drivers))
-
--- a program in shape has fewer modes than a kind can name
-pub modes-nameable : (T : Tables) → shapeBad T ≡ false → modeCount T < unnamed
-modes-nameable T e = omega (arith, whole-few modeWidth maxModes (T .modes) (shape-bars T .ok e .modes))
 
 -- at a place past the last table no row is bad
 pub row-past : (T : Tables) (place row : ℕ) → tableCount ≤ place → rowBad T place row ≡ false

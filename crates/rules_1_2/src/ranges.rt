@@ -38,7 +38,7 @@ fn in_range(n: usize, limit: usize) -> bool
 pub fn port_bad(ports: &[i32], p: Port) -> bool
     ensures { λ r. ⌜ ((T : Tables) → T .ports ≡ now (ports .entry) → r ≡ portBad T (p .0)) ⌝ }
 {
-    port::OUTPUT < ports::kind(ports, p)
+    port::PRIVATE < ports::kind(ports, p)
 }
 
 // Task t has a supplier or a worst-case time out of range.

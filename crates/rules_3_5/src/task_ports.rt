@@ -1,4 +1,4 @@
-// Number 3: a task port row repeats, names a sensor or actuator, or one input port serves two tasks.
+// Number 3: a task port row repeats, names a sensor or actuator, or one input or private port serves two tasks.
 ghost use mathlib.Core.Path.{_≡_};
 ghost use Rattle.theory.specs.Search.{any, first};
 ghost use Rattle.program.specs.Tables.{Tables, taskPortCount};
@@ -31,7 +31,7 @@ fn has_same_port(task_ports: &[i32], p: Port, n: usize) -> bool
     false
 }
 
-// Row k of the task ports repeats a row before it, names a sensor or actuator, or names an input that such a row names.
+// Row k of the task ports repeats a row before it, names a sensor or actuator, or an input or private port that such a row names.
 fn task_port_clash(ports: &[i32], task_ports: &[i32], k: usize) -> bool
     ensures { λ r. ⌜ ((T : Tables) → T .ports ≡ now (ports .entry) → T .taskPorts ≡ now («task_ports» .entry) → r ≡ taskPortClash T k) ⌝ }
 {
@@ -40,9 +40,9 @@ fn task_port_clash(ports: &[i32], task_ports: &[i32], k: usize) -> bool
     let repeats = members::has_task_port(task_ports, t, p, k);
     let sensor = members::is_kind(ports, port::SENSOR, p);
     let actuator = members::is_kind(ports, port::ACTUATOR, p);
-    let input = members::is_kind(ports, port::INPUT, p);
+    let taken = members::may_take(ports, p);
     let serves = has_same_port(task_ports, p, k);
-    repeats | sensor | actuator | (input & serves)
+    repeats | sensor | actuator | (taken & serves)
 }
 
 // The lowest row of the task ports that breaks number 3; the number of rows where none does.

@@ -61,8 +61,8 @@ unfolding listingOf units isMultiple rowMisses isKind
 listing-tasks T x = listing-other (programOf T) (programOf (withTasks T x))
 
 -- a task that no row declares has supplier 0, no time and no ports
-no-task : (T : Tables) (t : ℕ) → taskCount T ≤ t → task (programOf T) t ≡ record { supplier = 0; worst = 0; inputs = []; outputs = [] }
-no-task T t l = List·getD-eq-default (programOf T .tasks) (record { supplier = 0; worst = 0; inputs = []; outputs = [] }) {n = t} (rw (each-length (taskRow T) (taskCount T) 0) l)
+no-task : (T : Tables) (t : ℕ) → taskCount T ≤ t → task (programOf T) t ≡ record { supplier = 0; worst = 0; takes = []; gives = [] }
+no-task T t l = List·getD-eq-default (programOf T .tasks) (record { supplier = 0; worst = 0; takes = []; gives = [] }) {n = t} (rw (each-length (taskRow T) (taskCount T) 0) l)
 
 module _ (T : Tables) (x : List ℤ) (s : ℕ) (as-many : length (T .tasks) ≡ length x)
     (same-supplier : (t : ℕ) → taskSupplier T t ≡ taskSupplier (withTasks T x) t)

@@ -1,4 +1,4 @@
--- What all copies of a driver and all outputs of a task assign, row by row, is what the program says of them; and a driver
+-- What all copies of a driver and all ports that a task gives assign, row by row, is what the program says of them; and a driver
 -- assigns nothing unless its guard holds.
 use Prim.Native.Nat.{ℕ}
 use mathlib.Core.Path.{_≡_, refl, sym, ap, _∙_}
@@ -9,11 +9,12 @@ use lib.IntN.{ℤ}
 use Rattle.theory.specs.Lists.{Put, puts, those}
 use Rattle.theory.proofs.Lists.{map-those}
 use Rattle.cells.specs.Cell.{rowsIn}
-use Rattle.program.specs.Tables.{Tables, output, taskPortWidth, taskPortCount, taskPortPort, copyWidth, copyCount, copyDriver}
+use Rattle.program.specs.Tables.{Tables, taskPortWidth, taskPortCount, taskPortPort, copyWidth, copyCount, copyDriver}
+use Rattle.program.specs.Sets.{mayGive}
 use Rattle.program.specs.Guard.{guardOf, holds}
 use Rattle.program.specs.Program.{copyRow, driverRow, portsOf}
-use Rattle.program.specs.Ports.{valueOf, takes, moves, drive}
-use Rattle.ticking.specs.Values.{copyPut, copied, isOutputRow, outputPut}
+use Rattle.program.specs.Ports.{valueOf, assigned, moves, drive}
+use Rattle.ticking.specs.Values.{copyPut, copied, givesRow, givesPut}
 
 -- row c of the copies is a copy of driver d
 abbrev pub isCopyOf : Tables → ℕ → ℕ → Bool
@@ -36,11 +37,11 @@ module _ (T : Tables) where
     pub drive-nothing : holds (guardOf T d) (valueOf v) ≡ false → v ≡ drive (driverRow T d) v
     drive-nothing e = rw (e, moves) refl
 
-  -- what the rows of the task ports that are outputs of the task assign is what its outputs take
+  -- what the rows of the task ports that the task gives assign is what its ports take
   pub outputs-all : (t : ℕ) (given v taskPorts : List ℤ) → T .taskPorts ≡ taskPorts
-      → puts (those (isOutputRow T t) (outputPut T given) (rowsIn taskPortWidth taskPorts) 0) v
-      ≡ puts (takes (valueOf given) (portsOf T output t)) v
-  unfolding isOutputRow
+      → puts (those (givesRow T t) (givesPut T given) (rowsIn taskPortWidth taskPorts) 0) v
+      ≡ puts (assigned (valueOf given) (portsOf T (mayGive T) t)) v
+  unfolding givesRow
   outputs-all t given v taskPorts e =
-      ap (λ (l : List ℤ). puts (those (isOutputRow T t) (outputPut T given) (rowsIn taskPortWidth l) 0) v) (sym e)
-      ∙ ap (λ (l : List Put). puts l v) (sym (map-those _ (isOutputRow T t) (taskPortPort T) (taskPortCount T) 0))
+      ap (λ (l : List ℤ). puts (those (givesRow T t) (givesPut T given) (rowsIn taskPortWidth l) 0) v) (sym e)
+      ∙ ap (λ (l : List Put). puts l v) (sym (map-those _ (givesRow T t) (taskPortPort T) (taskPortCount T) 0))

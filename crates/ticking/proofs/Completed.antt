@@ -14,4 +14,4 @@ use Rattle.ticking.specs.Joined.{outputsBy}
 pub outputs-declared : (T : Tables) (results : List ℤ) (s : State) (t : ℕ) → t < taskCount T
     → outputsBy T results s t ≡ outputsAfter (programOf T) results s t
 outputs-declared T results s t l =
-    ap (λ (k : Task). outputsAt (k .outputs) results s t) (sym (task-row T t l))
+    ap (λ (k : Task). outputsAt (k .gives) results s t) (sym (task-row T t l))

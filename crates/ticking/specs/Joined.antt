@@ -5,7 +5,8 @@ use mathlib.Core.Bool.{true, false}
 use mathlib.Core.List.{List}
 use lib.Dec.{eqb}
 use lib.IntN.{ℤ}
-use Rattle.program.specs.Tables.{Tables, output}
+use Rattle.program.specs.Tables.{Tables}
+use Rattle.program.specs.Sets.{mayGive}
 use Rattle.program.specs.Program.{portsOf}
 use Rattle.runs.specs.declared.turn.Turn.{Turn}
 use Rattle.machine.specs.declared.State.{State}
@@ -21,4 +22,4 @@ joinTold before t = elim (t .runs) [
 
 -- the local outputs after a tick of task t, by the rows of the task ports
 abbrev pub outputsBy : Tables → List ℤ → State → ℕ → List ℤ
-outputsBy T results s t = outputsAt (portsOf T output t) results s t
+outputsBy T results s t = outputsAt (portsOf T (mayGive T) t) results s t

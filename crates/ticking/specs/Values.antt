@@ -6,8 +6,8 @@ use lib.Dec.{eqb}
 use lib.IntN.{ℤ}
 use lib.ListN.{set}
 use Rattle.theory.specs.Lists.{Put, puts}
-use Rattle.program.specs.Tables.{Tables, output, taskPortTask, taskPortPort, copySource, copyDestination}
-use Rattle.program.specs.Sets.{isKind}
+use Rattle.program.specs.Tables.{Tables, taskPortTask, taskPortPort, copySource, copyDestination}
+use Rattle.program.specs.Sets.{mayGive}
 use Rattle.program.specs.Program.{driverRow}
 use Rattle.program.specs.Ports.{valueOf, copyPuts}
 
@@ -23,10 +23,10 @@ copyPut T old c = record { place = copyDestination T c; value = valueOf old (cop
 abbrev pub copied : Tables → ℕ → List ℤ → List ℤ
 copied T d v = puts (copyPuts v (driverRow T d)) v
 
--- row k of the task ports is an output of task t
-unfoldable pub isOutputRow : Tables → ℕ → ℕ → Bool
-isOutputRow T t k = eqb (taskPortTask T k) t && isKind T output (taskPortPort T k)
+-- row k of the task ports is a port that task t gives
+unfoldable pub givesRow : Tables → ℕ → ℕ → Bool
+givesRow T t k = eqb (taskPortTask T k) t && mayGive T (taskPortPort T k)
 
 -- row k of the task ports assigns what its port has among the given values to that port
-abbrev pub outputPut : Tables → List ℤ → ℕ → Put
-outputPut T given k = record { place = taskPortPort T k; value = valueOf given (taskPortPort T k) }
+abbrev pub givesPut : Tables → List ℤ → ℕ → Put
+givesPut T given k = record { place = taskPortPort T k; value = valueOf given (taskPortPort T k) }

@@ -78,7 +78,7 @@ fn outputs_after(
     let left = s.left;
     let outputs = s.outputs;
     if tasks::left(&left, t) == 1 {
-        return values::outputs_taken(ports, task_ports, t, results, outputs);
+        return values::gives_taken(ports, task_ports, t, results, outputs);
     }
     outputs
 }

@@ -1,15 +1,15 @@
-// Port values: what a driver, a task's outputs and a sensor's reading put among them. No row copies them.
+// Port values: what a driver, a task and a sensor's reading put among them. No row copies them.
 ghost use mathlib.Core.Path.{_≡_};
 ghost use lib.ListN.{set};
 ghost use Rattle.theory.specs.Lists.{puts, each};
 ghost use Rattle.cells.specs.Limits.{maxPorts};
-ghost use Rattle.program.specs.Tables.{Tables, output, portFirst, copyDriver};
+ghost use Rattle.program.specs.Tables.{Tables, portFirst, copyDriver};
+ghost use Rattle.program.specs.Sets.{mayGive};
 ghost use Rattle.program.specs.Program.{portsOf, driverRow};
-ghost use Rattle.program.specs.Ports.{valueOf, takes, drive};
-ghost use Rattle.ticking.specs.Values.{putRow, copyPut, isOutputRow, outputPut, copied};
+ghost use Rattle.program.specs.Ports.{valueOf, assigned, drive};
+ghost use Rattle.ticking.specs.Values.{putRow, copyPut, givesRow, givesPut, copied};
 ghost use lib.Dec.{eqb};
 use cells::columns::copy;
-use cells::columns::port;
 use cells::columns::task_port;
 use cells::kinds::Driver;
 use cells::kinds::Port;
@@ -63,8 +63,8 @@ pub fn driven(
     values
 }
 
-// Row k of the task ports, if it is an output of task t, puts what its port has among the given values into the values.
-fn output_row(
+// Row k of the task ports, if task t gives its port, puts what that port has among the given values into the values.
+fn gives_row(
     ports: &[i32],
     task_ports: &[i32],
     t: Task,
@@ -73,17 +73,17 @@ fn output_row(
     values: &mut [i32],
 )
     ensures { λ _. ⌜ ((T : Tables) → T .ports ≡ now (ports .entry) → T .taskPorts ≡ now («task_ports» .entry)
-        → now (values .exit) ≡ putRow (isOutputRow T (t .0) k) (outputPut T (now (given .entry)) k) (now (values .entry))) ⌝ }
+        → now (values .exit) ≡ putRow (givesRow T (t .0) k) (givesPut T (now (given .entry)) k) (now (values .entry))) ⌝ }
 {
     let own = table::task(task_ports, task_port::WIDTH, k, task_port::TASK);
     let p = table::port(task_ports, task_port::WIDTH, k, task_port::PORT);
-    if own.is(t) & members::is_kind(ports, port::OUTPUT, p) {
+    if own.is(t) & members::may_give(ports, p) {
         ports::put(values, p, ports::value(given, p));
     }
 }
 
-// The values after each output of task t has taken what it has among the given values.
-pub fn outputs_taken(
+// The values after each port that task t gives, its outputs and private ports, has taken what it has among the given values.
+pub fn gives_taken(
     ports: &[i32],
     task_ports: &[i32],
     t: Task,
@@ -91,13 +91,13 @@ pub fn outputs_taken(
     values: [i32; Program::PORTS],
 ) -> [i32; Program::PORTS]
     ensures { λ r. ⌜ ((T : Tables) → T .ports ≡ now (ports .entry) → T .taskPorts ≡ now («task_ports» .entry)
-        → r ≡ puts (takes (valueOf (now (given .entry))) (portsOf T output (t .0))) values) ⌝ }
+        → r ≡ puts (assigned (valueOf (now (given .entry))) (portsOf T (mayGive T) (t .0))) values) ⌝ }
 {
     let n = task_ports.len() / task_port::WIDTH;
     let mut next = values;
     let mut k = 0;
     while k < n {
-        output_row(ports, task_ports, t, given, k, &mut next);
+        gives_row(ports, task_ports, t, given, k, &mut next);
         k += 1;
     }
     next

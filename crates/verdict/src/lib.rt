@@ -1,9 +1,11 @@
 // The verdict on a program: numbers 1 to 10 and 24, the first that applies, and the row that it names.
 ghost use mathlib.Core.Path.{_≡_};
 ghost use lib.IntN.{ℤ};
-ghost use Rattle.theory.specs.Verdict.{firstRefusal, foundAt};
+ghost use Rattle.theory.specs.Verdict.{firstRefusal, foundAt, rowsAnswer};
+ghost use Rattle.cells.specs.Refusals.{copiesRefused};
 ghost use Rattle.program.specs.Tables.{tablesIn, rowsAt};
 ghost use Rattle.rules.specs.Shape.{InShape};
+ghost use Rattle.rules.specs.Declared.{copyTests};
 ghost use Rattle.rules.specs.Verdict.{tableRefusals, programAnswer};
 ghost use Rattle.verdict.specs.Asked.{answerBy};
 use cells::limits::Program;
@@ -13,6 +15,7 @@ use program::rows;
 use rules_1_2::searches;
 use rules_1_2::slices;
 use rules_3_5::copies;
+use rules_3_5::guards;
 use rules_3_5::mode_ports;
 use rules_3_5::task_ports;
 use rules_6_10::invocations;
@@ -46,6 +49,20 @@ fn named(tables: &[&[i32]; Program::TABLES], number: usize, table: usize, row: u
     answers::found(number, table, row, rows::count(tables, table))
 }
 
+// What number 4 comes to: the lowest guard that breaks it, and where none does the lowest copy.
+fn guards_and_copies(tables: &[&[i32]; Program::TABLES]) -> Answer
+    requires { ⌜ InShape (now tables) ⌝ }
+    ensures { λ r. ⌜ ((start : ℤ) → r ≡ rowsAnswer copiesRefused (copyTests (tablesIn (now (tables .entry)) start))) ⌝ }
+{
+    let row = guards::first_guard_wrong(tables);
+    let guard = named(tables, refusals::COPIES, tables::DRIVERS, row);
+    if refusals::ACCEPTED < guard.number {
+        return guard;
+    }
+    let c = copies::first_copy_clash(tables[tables::PORTS], tables[tables::COPIES]);
+    named(tables, refusals::COPIES, tables::COPIES, c)
+}
+
 // What this number, one of 2 to 10 or 24, comes to on tables that have their shape: itself with its place, or accepted; any other number
 // is accepted.
 fn by_number(tables: &[&[i32]; Program::TABLES], program: Program, number: usize) -> Answer
@@ -61,14 +78,7 @@ fn by_number(tables: &[&[i32]; Program::TABLES], program: Program, number: usize
             );
             named(tables, number, tables::TASK_PORTS, row)
         }
-        refusals::COPIES => {
-            named(
-                tables,
-                number,
-                tables::COPIES,
-                copies::first_copy_clash(tables[tables::COPIES]),
-            )
-        }
+        refusals::COPIES => guards_and_copies(tables),
         refusals::MODE_PORTS => {
             let row = mode_ports::first_mode_port_clash(
                 tables[tables::PORTS],

@@ -35,7 +35,7 @@ use Rattle.giotto.specs.Instant.{Function}
 use Rattle.giotto.specs.Execution.{execution}
 use Rattle.demands.specs.Composed.{Accepted, compiling}
 use Rattle.demands.specs.Idle.{Idle, askedOf}
-use Rattle.demands.specs.Missing.{DueAt, Enters, Takes}
+use Rattle.demands.specs.Missing.{DueAt, Enters, TakesSwitch}
 use Rattle.demands.proofs.Idle.{accepted-of}
 use Rattle.demands.proofs.Supplied.{worst-case-suited}
 use Rattle.demands.proofs.Missing.{missing-satisfies, gap-exact, missing-takes}
@@ -181,17 +181,17 @@ module _ (F : Function) (readings : ℕ → List ℤ) (whole : (n : ℕ) → len
       }
 
   takes : (n m i : ℕ) → SwitchOf insulation m i → Satisfies insulation 0 i → Due i m 0 → MissingAt F readings n m
-      → Takes insulation-system F (insulationLent F readings) n i
+      → TakesSwitch insulation-system F (insulationLent F readings) n i
   takes n m i w s d l =
       missing-takes insulation-system insulation-accepted F (insulationLent F readings) n
       (λ k h. worst-case-suited insulation-system windows-accepted F readings whole k)
       i 0 resistance s (due-then n m i w d l) (l .missing)
 
   -- a missing reading takes row 0 in the normal mode, and not row 1, which leads to the alarm mode too; in the alarm mode it takes row 3
-  pub normal-takes : (n : ℕ) → MissingAt F readings n 0 → Takes insulation-system F (insulationLent F readings) n 0
+  pub normal-takes : (n : ℕ) → MissingAt F readings n 0 → TakesSwitch insulation-system F (insulationLent F readings) n 0
   normal-takes n l = takes n 0 0 of-normal normal-satisfied normal-due l
 
-  pub alarm-takes : (n : ℕ) → MissingAt F readings n 1 → Takes insulation-system F (insulationLent F readings) n 3
+  pub alarm-takes : (n : ℕ) → MissingAt F readings n 1 → TakesSwitch insulation-system F (insulationLent F readings) n 3
   alarm-takes n l = takes n 1 3 of-alarm alarm-satisfied alarm-due l
 
   -- both enter the alarm mode

@@ -3,9 +3,10 @@
 use Rattle.theory.specs.Search.{any, firstFrom, first}
 use Rattle.cells.specs.Cell.{nameOf, numAt, nameAt, wordAt}
 use Rattle.readings.specs.Reading.{inside, isMissing, isValue}
-use Rattle.program.specs.Sets.{isKind, isTaskPort, modePortAt, isInput, isOutput, isModePort, copiesFrom, copiesTo, isSource, isDestination}
+use Rattle.program.specs.Sets.{isKind, mayTake, mayGive, isTaskPort, modePortAt, isInput, isOutput, isModePort, copiesFrom, copiesTo, isSource}
+use Rattle.program.specs.Sets.{isDestination}
 use Rattle.program.specs.Units.{misses, rowMisses, isMultiple, units}
-use Rattle.rules.specs.Declared.{samePort, taskPortClash, taskPortsBad, copyClash, copiesBad, modePortClash, modePortsBad}
+use Rattle.rules.specs.Declared.{samePort, taskPortClash, taskPortsBad, guardWrong, copyClash, copiesBad, modePortClash, modePortsBad}
 use Rattle.rules.specs.Fields.{inRange, portBad, taskBad, taskPortBad, alwaysFits, intervalFits, driverBad, copyBad, modeBad, modePortBad}
 use Rattle.rules.specs.Fields.{invocationBad, updateBad, switchBad, startBad, fieldsBad}
 use Rattle.rules.specs.Modes.{ownPort, outputWith, inputWith, portWith, sourceWith, destinationWith, someOutput, someInput, somePort}
@@ -25,5 +26,5 @@ use Rattle.machine.specs.Advance.{freshAnswer, advanceShapeBad, stateOut, advan
 use Rattle.text.specs.Shipped.{answerLine, isLarger, shipped}
 
 unfoldable pub computed : Unit {0}
-unfolding any firstFrom first nameOf numAt nameAt wordAt inside isMissing isValue isKind isTaskPort modePortAt isInput isOutput isModePort copiesFrom copiesTo isSource isDestination misses rowMisses isMultiple units samePort taskPortClash taskPortsBad copyClash copiesBad modePortClash modePortsBad inRange portBad taskBad taskPortBad alwaysFits intervalFits driverBad copyBad modeBad modePortBad invocationBad updateBad switchBad startBad fieldsBad ownPort outputWith inputWith portWith sourceWith destinationWith someOutput someInput somePort someSource someDestination unreadable invocationClash invocationWrong invocationsBad updateClash updateWrong updatesBad switchClash switchWrong switchesBad forMissing gapAt gapBad badSlice badLength shapeBad unitsWrong unitsBad notWhole wholeWrong wholeBad programVerdict programAnswer listingOf codeLong sliceShort compileVerdict listing windowHas inWindow shareTick dispatchFits idleFits precedes rowWrong partBad rowCount pastPart joinedBad partShapeBad partVerdict partAnswer supplierVerdict windowWrong windowsBad windowsShapeBad windowsVerdict windowsAnswer freshAnswer advanceShapeBad stateOut advanceVerdict advanceAnswer answerLine isLarger shipped
+unfolding any firstFrom first nameOf numAt nameAt wordAt inside isMissing isValue isKind mayTake mayGive isTaskPort modePortAt isInput isOutput isModePort copiesFrom copiesTo isSource isDestination misses rowMisses isMultiple units samePort taskPortClash taskPortsBad guardWrong copyClash copiesBad modePortClash modePortsBad inRange portBad taskBad taskPortBad alwaysFits intervalFits driverBad copyBad modeBad modePortBad invocationBad updateBad switchBad startBad fieldsBad ownPort outputWith inputWith portWith sourceWith destinationWith someOutput someInput somePort someSource someDestination unreadable invocationClash invocationWrong invocationsBad updateClash updateWrong updatesBad switchClash switchWrong switchesBad forMissing gapAt gapBad badSlice badLength shapeBad unitsWrong unitsBad notWhole wholeWrong wholeBad programVerdict programAnswer listingOf codeLong sliceShort compileVerdict listing windowHas inWindow shareTick dispatchFits idleFits precedes rowWrong partBad rowCount pastPart joinedBad partShapeBad partVerdict partAnswer supplierVerdict windowWrong windowsBad windowsShapeBad windowsVerdict windowsAnswer freshAnswer advanceShapeBad stateOut advanceVerdict advanceAnswer answerLine isLarger shipped
 computed = tt

@@ -10,7 +10,7 @@ use Rattle.theory.specs.Rows.{placeless, testing}
 use Rattle.theory.specs.Verdict.{acceptedNumber, rowsAnswer, foundAt}
 use Rattle.theory.specs.declared.Answer.{Answer}
 use Rattle.theory.proofs.Verdict.{found-rows}
-use Rattle.program.specs.Tables.{Tables, tablesIn, rowsAt, taskPortsAt, copiesAt, modesAt, modePortsAt, invocationsAt, updatesAt, switchesAt}
+use Rattle.program.specs.Tables.{Tables, tablesIn, rowsAt, taskPortsAt, modesAt, modePortsAt, invocationsAt, updatesAt, switchesAt}
 use Rattle.rules.specs.Fields.{fieldsBad}
 use Rattle.rules.specs.Declared.{taskPortsBad, copiesBad, modePortsBad}
 use Rattle.rules.specs.Modes.{invocationsBad, updatesBad, switchesBad}
@@ -36,14 +36,8 @@ first-task-port-clash-requires c κs = search needs
 named-requires : tie.Need-named-requires
 named-requires c κs = search needs
 
-element-copy-out-first-copy-clash : tie.Need-element-copy-out-first-copy-clash
-element-copy-out-first-copy-clash c = search needs
-
-first-copy-clash-requires : tie.Need-first-copy-clash-requires
-first-copy-clash-requires c κs = search needs
-
-named-requires-2 : tie.Need-named-requires-2
-named-requires-2 c κs = search needs
+guards-and-copies-requires : tie.Need-guards-and-copies-requires
+guards-and-copies-requires c κs = search needs
 
 element-copy-out-first-mode-port-clash : tie.Need-element-copy-out-first-mode-port-clash
 element-copy-out-first-mode-port-clash c = search needs
@@ -54,26 +48,26 @@ element-copy-out-first-mode-port-clash-2 c = search needs
 first-mode-port-clash-requires : tie.Need-first-mode-port-clash-requires
 first-mode-port-clash-requires c κs = search needs
 
-named-requires-3 : tie.Need-named-requires-3
-named-requires-3 c κs = search needs
+named-requires-2 : tie.Need-named-requires-2
+named-requires-2 c κs = search needs
 
 first-wrong-invocation-requires : tie.Need-first-wrong-invocation-requires
 first-wrong-invocation-requires c κs = search needs
 
-named-requires-4 : tie.Need-named-requires-4
-named-requires-4 c κs = search needs
+named-requires-3 : tie.Need-named-requires-3
+named-requires-3 c κs = search needs
 
 first-wrong-update-requires : tie.Need-first-wrong-update-requires
 first-wrong-update-requires c κs = search needs
 
-named-requires-5 : tie.Need-named-requires-5
-named-requires-5 c κs = search needs
+named-requires-4 : tie.Need-named-requires-4
+named-requires-4 c κs = search needs
 
 first-wrong-switch-requires : tie.Need-first-wrong-switch-requires
 first-wrong-switch-requires c κs = search needs
 
-named-requires-6 : tie.Need-named-requires-6
-named-requires-6 c κs = search needs
+named-requires-5 : tie.Need-named-requires-5
+named-requires-5 c κs = search needs
 
 first-wrong-units-requires : tie.Need-first-wrong-units-requires
 first-wrong-units-requires c κs = search needs
@@ -84,8 +78,8 @@ word-requires c κs = search needs
 cast-named : tie.Need-cast-named
 cast-named c = search needs
 
-named-requires-7 : tie.Need-named-requires-7
-named-requires-7 c κs = search needs
+named-requires-6 : tie.Need-named-requires-6
+named-requires-6 c κs = search needs
 
 element-copy-out-first-not-whole : tie.Need-element-copy-out-first-not-whole
 element-copy-out-first-not-whole c = search needs
@@ -96,8 +90,8 @@ element-copy-out-first-not-whole-2 c = search needs
 first-not-whole-requires : tie.Need-first-not-whole-requires
 first-not-whole-requires c κs = search needs
 
-named-requires-8 : tie.Need-named-requires-8
-named-requires-8 c κs = search needs
+named-requires-7 : tie.Need-named-requires-7
+named-requires-7 c κs = search needs
 
 has-gap-requires : tie.Need-has-gap-requires
 has-gap-requires c κs = search needs
@@ -133,45 +127,43 @@ returns-2 c =
 
 returns-3 : tie.Need-returns-3
 unfolding copiesBad
-returns-3 c =
-    let m = c .before .before .before in
-    found-as (m .before) copiesAt _ (m .match .keys3) (c .named2 .ensures) (c .before .first-copy-clash .ensures (lent (m .before)) refl) refl
+returns-3 c = answer-as tableRefusals _ (c .before .match .keys3) (c .guards-and-copies .ensures _)
 
 returns-4 : tie.Need-returns-4
 unfolding modePortsBad
 returns-4 c =
     let m = c .before .before .before .before in
-    found-as (m .before) modePortsAt _ (m .match .keys4) (c .named3 .ensures) (c .before .first-mode-port-clash .ensures (lent (m .before)) refl refl) refl
+    found-as (m .before) modePortsAt _ (m .match .keys4) (c .named2 .ensures) (c .before .first-mode-port-clash .ensures (lent (m .before)) refl refl) refl
 
 returns-5 : tie.Need-returns-5
 unfolding invocationsBad
 returns-5 c =
     let m = c .before .before in
-    found-as (m .before) invocationsAt _ (m .match .keys5) (c .named4 .ensures) (c .before .first-wrong-invocation .ensures _) refl
+    found-as (m .before) invocationsAt _ (m .match .keys5) (c .named3 .ensures) (c .before .first-wrong-invocation .ensures _) refl
 
 returns-6 : tie.Need-returns-6
 unfolding updatesBad
 returns-6 c =
     let m = c .before .before in
-    found-as (m .before) updatesAt _ (m .match .keys6) (c .named5 .ensures) (c .before .first-wrong-update .ensures _) refl
+    found-as (m .before) updatesAt _ (m .match .keys6) (c .named4 .ensures) (c .before .first-wrong-update .ensures _) refl
 
 returns-7 : tie.Need-returns-7
 unfolding switchesBad
 returns-7 c =
     let m = c .before .before in
-    found-as (m .before) switchesAt _ (m .match .keys7) (c .named6 .ensures) (c .before .first-wrong-switch .ensures _) refl
+    found-as (m .before) switchesAt _ (m .match .keys7) (c .named5 .ensures) (c .before .first-wrong-switch .ensures _) refl
 
 returns-8 : tie.Need-returns-8
 unfolding unitsBad
 returns-8 c =
     let m = c .before .before .before in
-    found-as (m .before) modesAt _ (m .match .keys8) (c .named7 .ensures) (c .before .word .ensures ∙ c .before .before .first-wrong-units .ensures _) refl
+    found-as (m .before) modesAt _ (m .match .keys8) (c .named6 .ensures) (c .before .word .ensures ∙ c .before .before .first-wrong-units .ensures _) refl
 
 returns-9 : tie.Need-returns-9
 unfolding wholeBad
 returns-9 c =
     let m = c .before .before .before .before in
-    found-as (m .before) switchesAt _ (m .match .keys9) (c .named8 .ensures) (c .before .first-not-whole .ensures (lent (m .before)) refl refl) refl
+    found-as (m .before) switchesAt _ (m .match .keys9) (c .named7 .ensures) (c .before .first-not-whole .ensures (lent (m .before)) refl refl) refl
 
 returns-10 : tie.Need-returns-10
 returns-10 c =
@@ -196,27 +188,25 @@ by-number-spec =
     element-copy-out-first-task-port-clash-2
     first-task-port-clash-requires
     named-requires
-    element-copy-out-first-copy-clash
-    first-copy-clash-requires
-    named-requires-2
+    guards-and-copies-requires
     element-copy-out-first-mode-port-clash
     element-copy-out-first-mode-port-clash-2
     first-mode-port-clash-requires
-    named-requires-3
+    named-requires-2
     first-wrong-invocation-requires
-    named-requires-4
+    named-requires-3
     first-wrong-update-requires
-    named-requires-5
+    named-requires-4
     first-wrong-switch-requires
-    named-requires-6
+    named-requires-5
     first-wrong-units-requires
     word-requires
     cast-named
-    named-requires-7
+    named-requires-6
     element-copy-out-first-not-whole
     element-copy-out-first-not-whole-2
     first-not-whole-requires
-    named-requires-8
+    named-requires-7
     has-gap-requires
     where-applies-requires
     accepted-requires

@@ -30,11 +30,11 @@ returns-2 c T p e o readings times =
     output-running T readings times (s .args .s) _ _ _ e (s .pre) (own .before .of .ensures) (own .declared .ensures) (test .if1 .left)
     _ (c .before .left3 .ensures) (c .if2 .taken)
 
-slice-aggregate-outputs-taken : tie.Need-slice-aggregate-outputs-taken
-slice-aggregate-outputs-taken c = search needs
+slice-aggregate-gives-taken : tie.Need-slice-aggregate-gives-taken
+slice-aggregate-gives-taken c = search needs
 
-outputs-taken-requires : tie.Need-outputs-taken-requires
-outputs-taken-requires c κs = search needs
+gives-taken-requires : tie.Need-gives-taken-requires
+gives-taken-requires c κs = search needs
 
 returns-3 : tie.Need-returns-3
 returns-3 c T p e o readings times =
@@ -43,7 +43,7 @@ returns-3 c T p e o readings times =
     let own = test .before in
     let s = own .before .before in
     output-done T readings times (s .args .s) _ _ _ e (s .pre) (own .before .of .ensures) (own .declared .ensures) (test .if1 .left)
-    _ _ (ended .before .left3 .ensures) (ended .if2 .left) (c .outputs-taken .ensures T p o)
+    _ _ (ended .before .left3 .ensures) (ended .if2 .left) (c .gives-taken .ensures T p o)
 
 pub output-call-spec : {M : Type 1} → statement M
 output-call-spec =
@@ -55,6 +55,6 @@ output-call-spec =
     slice-aggregate-left
     left-requires
     returns-2
-    slice-aggregate-outputs-taken
-    outputs-taken-requires
+    slice-aggregate-gives-taken
+    gives-taken-requires
     returns-3)

@@ -3,8 +3,8 @@ use mathlib.Core.Path.{refl, sym}
 use borrow.Author.Needs.{needs}
 use Rattle.cells.specs.Limits.{tableCount}
 use Rattle.program.specs.Tables.{tablesIn}
-use Rattle.rules_1_2.proofs.Rows.{row-at, kind-at, ports-nameable, tasks-nameable, drivers-nameable, modes-nameable}
-use Rattle.rules_1_2.proofs.Rows.{row-past, none-below}
+use Rattle.rules.proofs.Shape.{ports-nameable, tasks-nameable, drivers-nameable, modes-nameable}
+use Rattle.rules_1_2.proofs.Rows.{row-at, kind-at, row-past, none-below}
 use Rattle.rules_1_2.proofs.searches.row_bad.Statement.{statement}
 use Rattle.rules_1_2.proofs.searches.row_bad.Tie as tie
 

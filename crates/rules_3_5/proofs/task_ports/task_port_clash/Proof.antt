@@ -20,15 +20,15 @@ is-kind-requires c κs = search needs
 is-kind-requires-2 : tie.Need-is-kind-requires-2
 is-kind-requires-2 c κs = search needs
 
-is-kind-requires-3 : tie.Need-is-kind-requires-3
-is-kind-requires-3 c κs = search needs
+may-take-requires : tie.Need-may-take-requires
+may-take-requires c κs = search needs
 
 has-same-port-requires : tie.Need-has-same-port-requires
 has-same-port-requires c κs = search needs
 
 returns : tie.Need-returns
 unfolding taskPortClash
-returns c T e f = simp (c .has-same-port .ensures T f, c .before .is-kind3 .ensures T e, c .before .before .is-kind2 .ensures T e, c .before .before .before .is-kind .ensures T e, c .before .before .before .before .has-task-port .ensures T f, c .before .before .before .before .before .port .ensures, c .before .before .before .before .before .before .task .ensures, f) refl
+returns c T e f = simp (c .has-same-port .ensures T f, c .before .may-take .ensures T e, c .before .before .is-kind2 .ensures T e, c .before .before .before .is-kind .ensures T e, c .before .before .before .before .has-task-port .ensures T f, c .before .before .before .before .before .port .ensures, c .before .before .before .before .before .before .task .ensures, f) refl
 
 pub task-port-clash-spec : {M : Type 1} → statement M
 task-port-clash-spec =
@@ -39,6 +39,6 @@ task-port-clash-spec =
     has-task-port-requires
     is-kind-requires
     is-kind-requires-2
-    is-kind-requires-3
+    may-take-requires
     has-same-port-requires
     returns)

@@ -12,11 +12,11 @@ slice-aggregate-left c = search needs
 left-requires : tie.Need-left-requires
 left-requires c κs = search needs
 
-outputs-taken-requires : tie.Need-outputs-taken-requires
-outputs-taken-requires c κs = search needs
+gives-taken-requires : tie.Need-gives-taken-requires
+gives-taken-requires c κs = search needs
 
 returns : tie.Need-returns
-returns c T e f = c .outputs-taken .ensures T e f ∙ sym (rw (eq-eqb _ 1 (sym (c .before .before .left3 .ensures) ∙ c .before .if1 .taken), outputsAt))
+returns c T e f = c .gives-taken .ensures T e f ∙ sym (rw (eq-eqb _ 1 (sym (c .before .before .left3 .ensures) ∙ c .before .if1 .taken), outputsAt))
 
 returns-2 : tie.Need-returns-2
 returns-2 c T e f = sym (rw (ne-eqb _ 1 (λ q. c .if1 .left (c .before .left3 .ensures ∙ q)), outputsAt))
@@ -24,4 +24,4 @@ returns-2 c T e f = sym (rw (ne-eqb _ 1 (λ q. c .if1 .left (c .before .left3 .e
 pub outputs-after-spec : {M : Type 1} → statement M
 outputs-after-spec =
     tie.close
-    (tie.spec slice-aggregate-left left-requires outputs-taken-requires returns returns-2)
+    (tie.spec slice-aggregate-left left-requires gives-taken-requires returns returns-2)

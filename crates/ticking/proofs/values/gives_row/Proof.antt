@@ -1,4 +1,4 @@
--- `ticking::values::output_row` meets its contract: the row names its task and its port.
+-- `ticking::values::gives_row` meets its contract: the row names its task and its port.
 use mathlib.Core.Path.{_≡_, _∙_}
 use mathlib.Core.Bool.{_&&_}
 use denote.Ref.{now}
@@ -6,21 +6,21 @@ use borrow.Author.Needs.{needs}
 use Rattle.cells.proofs.Ints.{back}
 use Rattle.program.specs.Tables.{Tables, taskPortPort}
 use Rattle.program.specs.Ports.{valueOf}
-use Rattle.ticking.specs.Values.{isOutputRow, outputPut}
+use Rattle.ticking.specs.Values.{givesRow, givesPut}
 use Rattle.ticking.proofs.Rowwise.{row-put, row-kept}
-use Rattle.ticking.proofs.values.output_row.Statement.{statement}
-use Rattle.ticking.proofs.values.output_row.Tie as tie
+use Rattle.ticking.proofs.values.gives_row.Statement.{statement}
+use Rattle.ticking.proofs.values.gives_row.Tie as tie
 
-abbrev start : tie.After-is-kind → tie.Start
+abbrev start : tie.After-may-give → tie.Start
 start c = c .before .before .before .before
 
--- the row is an output of the task exactly where both tests say so
-own : (c : tie.After-is-kind) (T : Tables) → T .ports ≡ now (start c .args .ports) → T .taskPorts ≡ now (start c .args .task-ports)
-    → isOutputRow T (start c .args .t .0) (start c .args .k) ≡ c .before .is .result && c .is-kind .result
-unfolding isOutputRow
+-- the row is one of a port that the task gives exactly where both tests say so
+own : (c : tie.After-may-give) (T : Tables) → T .ports ≡ now (start c .args .ports) → T .taskPorts ≡ now (start c .args .task-ports)
+    → givesRow T (start c .args .t .0) (start c .args .k) ≡ c .before .is .result && c .may-give .result
+unfolding givesRow
 own c T e f =
     let p = c .before .before in
-    simp (c .is-kind .ensures T e, c .before .is .ensures, p .port .ensures, p .before .task .ensures, f)
+    simp (c .may-give .ensures T e, c .before .is .ensures, p .port .ensures, p .before .task .ensures, f)
 
 task-requires : tie.Need-task-requires
 task-requires c κs = search needs
@@ -31,8 +31,8 @@ port-requires c κs = search needs
 is-requires : tie.Need-is-requires
 is-requires c κs = search needs
 
-is-kind-requires : tie.Need-is-kind-requires
-is-kind-requires c κs = search needs
+may-give-requires : tie.Need-may-give-requires
+may-give-requires c κs = search needs
 
 value-requires : tie.Need-value-requires
 value-requires c κs = search needs
@@ -52,22 +52,22 @@ returns c T e f =
     let place : port .result .0 ≡ taskPortPort T (a .k) = simp (port .ensures, f) in
     let value : v .value .result ≡ valueOf (now (a .given)) (taskPortPort T (a .k)) = simp (v .value .ensures, port .ensures, f) in
     c .before .put .ensures
-    ∙ row-put _ (outputPut T (now (a .given)) (a .k)) (now (a .values)) _ _ (own k T e f ∙ v .before .before .if1 .taken) place
+    ∙ row-put _ (givesPut T (now (a .given)) (a .k)) (now (a .values)) _ _ (own k T e f ∙ v .before .before .if1 .taken) place
     (back (v .value .result) (v .value .ok) ∙ value)
 
 returns-2 : tie.Need-returns-2
 returns-2 c T e f =
     let a = start (c .before) .args in
-    row-kept _ (outputPut T (now (a .given)) (a .k)) (now (a .values)) (own (c .before) T e f ∙ c .if1 .left)
+    row-kept _ (givesPut T (now (a .given)) (a .k)) (now (a .values)) (own (c .before) T e f ∙ c .if1 .left)
 
-pub output-row-spec : {M : Type 1} → statement M
-output-row-spec =
+pub gives-row-spec : {M : Type 1} → statement M
+gives-row-spec =
     tie.close
     (tie.spec
     task-requires
     port-requires
     is-requires
-    is-kind-requires
+    may-give-requires
     value-requires
     put-requires
     same-length
