@@ -37,7 +37,8 @@ struct Driver {
 
 struct Task {
     worst: i64,
-    outputs: Vec<usize>,
+    // output and private ports
+    gives: Vec<usize>,
 }
 
 struct Program {
@@ -94,9 +95,9 @@ fn read_program(x: &mut Numbers) -> Program {
         .enumerate()
         .map(|(t, r)| Task {
             worst: r[1],
-            outputs: task_ports
+            gives: task_ports
                 .chunks(2)
-                .filter(|q| q[0] as usize == t && ports[2 * q[1] as usize] == 3)
+                .filter(|q| q[0] as usize == t && matches!(ports[2 * q[1] as usize], 3 | 4))
                 .map(|q| q[1] as usize)
                 .collect(),
         })
@@ -142,7 +143,7 @@ impl Program {
             if s.left[n - 1000] > 0 {
                 return Err(17);
             }
-            for &p in &t.outputs {
+            for &p in &t.gives {
                 s.ports[p] = s.outputs[p];
             }
         } else {
@@ -214,7 +215,7 @@ impl Program {
         if let Some(t) = running {
             s.left[t] -= 1;
             if s.left[t] == 0 {
-                for &p in &self.tasks[t].outputs {
+                for &p in &self.tasks[t].gives {
                     s.outputs[p] = results[p];
                 }
             }

@@ -13,7 +13,7 @@ function read_ticks(file,    word, n) {
 
 function change(what, which, value) {
     if (what == "reading") check_port(which, "sensor", "SENSOR")
-    if (what == "result") check_port(which, "output", "OUTPUT")
+    if (what == "result") check_port(which, "output or private", "OUTPUT", "PRIVATE")
     if (what == "time") check_declared(which, "tasks", "task")
     if (value == "none") value = "-2147483648" # the no-reading value
     check_number(value)
@@ -24,9 +24,11 @@ function check_declared(which, name, kind) {
     if (which !~ /^[0-9]+$/ || which + 0 >= rows[name]) wrong(shown(which) " is no declared " kind)
 }
 
-function check_port(which, kind, value) {
+# of this kind, or of one of two
+function check_port(which, kind, value, other,    is) {
     check_declared(which, "ports", kind " port")
-    if (of("ports", which + 0, "KIND") != constant("port." value)) wrong(shown(which) " is no declared " kind " port")
+    is = of("ports", which + 0, "KIND")
+    if (is != constant("port." value) && (other == "" || is != constant("port." other))) wrong(shown(which) " is no declared " kind " port")
 }
 
 function add_ticks(n) {

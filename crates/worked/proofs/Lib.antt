@@ -19,3 +19,5 @@ pub mod Pair
 pub mod Uses
 pub mod Given
 pub mod Insulation
+pub mod Filters
+pub mod Private

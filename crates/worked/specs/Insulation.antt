@@ -8,7 +8,7 @@ use lib.Dec.{ltb}
 use lib.IntN.{ℤ, pos, negsuc}
 use lib.ListN.{replicate}
 use Rattle.readings.specs.Reading.{noReading}
-use Rattle.program.specs.Tables.{Tables, tables, sensor, actuator, input, output}
+use Rattle.program.specs.Tables.{Tables, tables, sensor, actuator, input, output, private}
 use Rattle.program.specs.Program.{programOf}
 use Rattle.program.specs.Ports.{valueOf}
 use Rattle.giotto.specs.Instant.{Function}
@@ -20,15 +20,16 @@ use Rattle.worked.specs.Programs.{numbers, ports, alwaysRow, intervalRow
 use Rattle.worked.specs.Systems.{room}
 use Rattle.worked.specs.Example.{insulationWindows, insulationPart0, insulationPart1, insulationPart2}
 
--- Ports: 0 the resistance in kilo-ohms, at first without a reading; 1 the relay; 2 to 5 what the tasks read; 6 to 8 filtered, judged, coil.
+-- Ports: 0 the resistance in kilo-ohms, at first without a reading; 1 the relay; 2 to 5 what the tasks read; 6 to 8 filtered, judged, coil;
+-- 9 the reading before, which the filter remembers, at first none.
 -- Tasks: 0 filter, 1 evaluation, 2 relay, 3 signal. Drivers 5 to 7 are for a missing reading, one below 50, one of at least 60.
 -- Mode 0, normal, period 20: a missing reading and one below 50 switch to mode 1. Mode 1, alarm, period 10, has these switches.
 abbrev pub insulationWith : List ℕ → Tables
 insulationWith alarmSwitches =
     tables
-    (pos sensor ∷ noReading ∷ (ports 1 actuator ++ (ports 4 input ++ ports 3 output)))
+    (pos sensor ∷ noReading ∷ (ports 1 actuator ++ (ports 4 input ++ (ports 3 output ++ (pos private ∷ noReading ∷ [])))))
     (numbers (0 ∷ 2 ∷ 1 ∷ 3 ∷ 2 ∷ 1 ∷ 2 ∷ 1 ∷ []))
-    (numbers (0 ∷ 2 ∷ 0 ∷ 6 ∷ 1 ∷ 3 ∷ 1 ∷ 7 ∷ 2 ∷ 4 ∷ 2 ∷ 8 ∷ 3 ∷ 5 ∷ 3 ∷ 8 ∷ []))
+    (numbers (0 ∷ 2 ∷ 0 ∷ 6 ∷ 0 ∷ 9 ∷ 1 ∷ 3 ∷ 1 ∷ 7 ∷ 2 ∷ 4 ∷ 2 ∷ 8 ∷ 3 ∷ 5 ∷ 3 ∷ 8 ∷ []))
     (driverRows
     (alwaysRow ∷ alwaysRow ∷ alwaysRow ∷ alwaysRow ∷ alwaysRow ∷ missingRow 0 ∷ intervalRow 0 (negsuc 2147483646) (pos 49)
     ∷ intervalRow 0 (pos 60) (pos 2147483647) ∷ []))

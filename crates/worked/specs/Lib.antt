@@ -4,6 +4,7 @@ pub mod Programs
 pub mod Systems
 pub mod Example
 pub mod Insulation
+pub mod Filters
 pub mod Blocks
 pub mod Broken
 pub mod Crowded

@@ -9,7 +9,7 @@ use lib.ListN.{replicate}
 use Rattle.cells.specs.Cell.{eqZ}
 use Rattle.cells.specs.Limits.{wordsEach}
 use Rattle.readings.specs.Reading.{noReading}
-use Rattle.program.specs.Tables.{Tables, tables, sensor, actuator, input, output}
+use Rattle.program.specs.Tables.{Tables, tables, sensor, actuator, input, output, private}
 use Rattle.program.specs.Program.{programOf}
 use Rattle.suppliers.specs.Supplier.{Asked}
 use Rattle.code.specs.Op.{instructions}
@@ -41,15 +41,15 @@ F-system = record { tables = programF 6 2; windows = window 0 10; parts = partsO
 abbrev pub F-asked : Asked
 F-asked = asked 6 (F-system .windows) (F-system .parts 0)
 
--- The monitor. Ports: 0 the measured resistance, 1 the relay, 2 and 3 the tasks' inputs, 4 their output.
+-- The monitor. Ports: 0 the measured resistance, 1 the relay, 2 and 3 the tasks' inputs, 4 their output, 5 what task 0 remembers.
 -- Mode 0, period 4: task 0 of supplier 0, twice; a missing reading switches to mode 1.
 -- Mode 1, period 2: task 1 of supplier 1, once, with this worst-case time; a reading 0..100 switches back, a missing one to mode 1 again.
 abbrev pub monitor : ℕ → Tables
 monitor worst1 =
     tables
-    (ports 1 sensor ++ (ports 1 actuator ++ (ports 2 input ++ ports 1 output)))
+    (ports 1 sensor ++ (ports 1 actuator ++ (ports 2 input ++ (ports 1 output ++ ports 1 private))))
     (numbers (0 ∷ 1 ∷ 1 ∷ worst1 ∷ []))
-    (numbers (0 ∷ 2 ∷ 0 ∷ 4 ∷ 1 ∷ 3 ∷ 1 ∷ 4 ∷ []))
+    (numbers (0 ∷ 2 ∷ 0 ∷ 4 ∷ 1 ∷ 3 ∷ 1 ∷ 4 ∷ 0 ∷ 5 ∷ []))
     (alwaysRow ++ (alwaysRow ++ (alwaysRow ++ (missingRow 0 ++ intervalRow 0 (pos 0) (pos 100)))))
     (numbers (0 ∷ 0 ∷ 2 ∷ 1 ∷ 0 ∷ 3 ∷ 2 ∷ 4 ∷ 1 ∷ 3 ∷ 4 ∷ 4 ∷ 4 ∷ 4 ∷ 4 ∷ []))
     (numbers (4 ∷ 2 ∷ []))
