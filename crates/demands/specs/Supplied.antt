@@ -1,5 +1,5 @@
--- A run with results that are a task function of the tasks' inputs and private ports: for any readings, times and function. It meets the premises of the
--- composed run, so it is Giotto's (proofs/Supplied.antt).
+-- A run with results that are a task function of the tasks' inputs and private ports: for any readings, times and function. It meets the
+-- premises of the composed run, so it is Giotto's (proofs/Supplied.antt).
 use Prim.Native.Nat.{ℕ, zero, suc}
 use mathlib.Core.Path.{_≡_}
 use mathlib.Core.Bool.{true}

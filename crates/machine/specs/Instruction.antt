@@ -126,7 +126,8 @@ module _ (P : Program) (readings times : List ℤ) where
       ∷ unplaced overrunRefused (λ a. stillRunning (a .state) o)
       ∷ []
 
-  -- what a call does: a driver copies only when its guard holds; an output copy takes what the task gave, from beside the local outputs; a sensor is read
+  -- what a call does: a driver copies only when its guard holds; an output copy takes what the task gave, which stands in the local
+  -- outputs; a sensor is read
   abbrev pub called : State → Call → State
   called s (driverCall d) = withPorts s (drive (driver P d) (s .ports))
   called s (outputCall t) = withPorts s (puts (assigned (valueOf (s .outputs)) (task P t .gives)) (s .ports))

@@ -51,7 +51,7 @@ pub record Worked (P : Program) (results : List ℤ) (t : ℕ) (s u : State) : T
   -- task t is a tick nearer its end, and no other task is
   pub nearer : leftOf (u .left) t ≡ leftOf (s .left) t - 1
   pub others : (j : ℕ) → (j ≡ t → ⊥) → leftOf (u .left) j ≡ leftOf (s .left) j
-  -- where task t completes, what it gives is put beside the local outputs; nothing else there changes, and else nothing does
+  -- where task t completes, the local outputs take what it gives; nothing else in them changes, and else nothing does
   pub completes : leftOf (s .left) t ≡ 1 → (p : ℕ) → p < length (s .outputs) → member p (task P t .gives) ≡ true
       → valueOf (u .outputs) p ≡ valueOf results p
   pub stays : (p : ℕ) → (member p (task P t .gives) ≡ false) ⊎ (leftOf (s .left) t ≡ 1 → ⊥)

@@ -11,8 +11,8 @@ use Rattle.theory.specs.Search.{any}
 use Rattle.theory.specs.Lists.{those}
 use Rattle.cells.specs.Cell.{rowsIn, fieldAt}
 use Rattle.program.specs.Tables.{Tables, portWidth, portCount, portKind, sensor, actuator, input, output, private, taskPortCount}
-use Rattle.program.specs.Tables.{taskPortTask, taskPortPort, guardKind, guardPort, kindInterval, copyCount, copyDriver, copySource, copyDestination}
-use Rattle.program.specs.Tables.{modePortCount, modePortMode, modePortPort}
+use Rattle.program.specs.Tables.{taskPortTask, taskPortPort, guardKind, guardPort, kindInterval, copyCount, copyDriver}
+use Rattle.program.specs.Tables.{copySource, copyDestination, modePortCount, modePortMode, modePortPort}
 
 -- port p is declared and of this kind
 unfoldable pub isKind : Tables → ℕ → ℕ → Bool

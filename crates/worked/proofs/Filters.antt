@@ -9,20 +9,25 @@ use lib.Dec.{eqb, ltb}
 use lib.IntN.{ℤ, pos, natAbs}
 use lib.ListN.{length}
 use Rattle.theory.specs.Lists.{each}
+use Rattle.theory.specs.Verdict.{acceptedNumber}
 use Rattle.cells.specs.Limits.{maxPorts}
 use Rattle.readings.specs.Reading.{noReading}
 use Rattle.program.specs.Tables.{private, input}
 use Rattle.program.specs.Sets.{isKind, OfKind}
 use Rattle.program.specs.Program.{Program, programOf, portsOf, mode, task, dueTasks}
 use Rattle.program.specs.Ports.{valueOf, valuesOf}
+use Rattle.rules.specs.Verdict.{programVerdict}
+use Rattle.suppliers.proofs.Accepted.{windows-accepted}
+use Rattle.giotto.specs.Instant.{Configuration, results}
 use Rattle.giotto.specs.Execution.{execution, portsInTick}
 use Rattle.machine.specs.Advance.{Lent}
 use Rattle.demands.specs.Composed.{stateAt, SuitedAt, Right}
 use Rattle.demands.specs.Supplied.{supplied, worstTimes}
-use Rattle.demands.specs.Private.{Ends, Remembers}
+use Rattle.demands.specs.Private.{Own, PrivateAfter, Ends, Remembers}
 use Rattle.demands.proofs.Composed.{composed-run}
 use Rattle.demands.proofs.Supplied.{worst-case-suited}
-use Rattle.demands.proofs.Private.{private-run}
+use Rattle.demands.proofs.Giotto.{execution-is-by-001}
+use Rattle.demands.proofs.Private.{private-own, private-written, private-run}
 use Rattle.worked.specs.Computed.{computed}
 use Rattle.worked.specs.Systems.{monitor-system}
 use Rattle.worked.specs.Insulation.{insulation, insulation-system, insulationLent}
@@ -34,8 +39,8 @@ abbrev monitor-program : Program
 monitor-program = programOf (monitor-system .tables)
 
 -- what is lent to the monitor's ticks, with worst-case times
-abbrev monitor-lent : ℕ → Lent
-monitor-lent = supplied monitor-system (smooth 5) interrupted (λ k. worstTimes monitor-program)
+abbrev filter-lent : ℕ → Lent
+filter-lent = supplied monitor-system (smooth 5) interrupted (λ k. worstTimes monitor-program)
 
 interrupted-whole : (n : ℕ) → length (interrupted n) ≡ maxPorts
 interrupted-whole n = go (ltb n 4) (eqb n 4)
@@ -46,12 +51,12 @@ interrupted-whole n = go (ltb n 4) (eqb n 4)
     go false true = refl
     go false false = refl
 
-pub monitor-suited : (n : ℕ) → SuitedAt monitor-system (smooth 5) monitor-lent n
-monitor-suited n = worst-case-suited monitor-system (monitor-accepted .windows) (smooth 5) interrupted interrupted-whole n
+pub filter-suited : (n : ℕ) → SuitedAt monitor-system (smooth 5) filter-lent n
+filter-suited n = worst-case-suited monitor-system (monitor-accepted .windows) (smooth 5) interrupted interrupted-whole n
 
 -- every tick is accepted, with Giotto's values in all ports
-pub monitor-right : (n : ℕ) → Right monitor-system (smooth 5) monitor-lent n
-monitor-right n = composed-run monitor-system monitor-accepted .1 (smooth 5) monitor-lent n (λ k l. monitor-suited k)
+pub filter-right : (n : ℕ) → Right monitor-system (smooth 5) filter-lent n
+filter-right n = composed-run monitor-system monitor-accepted .1 (smooth 5) filter-lent n (λ k l. filter-suited k)
 
 -- task 0 takes its input and what it remembers, in table order, and gives its output and what it remembers
 filter-takes : task monitor-program 0 .takes ≡ 2 ∷ 5 ∷ []
@@ -62,13 +67,32 @@ filter-gives : task monitor-program 0 .gives ≡ 4 ∷ 5 ∷ []
 unfolding computed
 filter-gives = refl
 
--- port 5 is private, and its value is task 0's memory in every tick
+-- port 5 is private: task 0's own, by 001 written at its terminations alone, and so in every tick of the machine
 memory : OfKind (monitor-system .tables) private 5
 unfolding computed
 memory = (omega arith, refl)
 
-pub monitor-remembers : (n : ℕ) → Remembers monitor-system (smooth 5) monitor-lent n 5
-monitor-remembers n = private-run monitor-system monitor-accepted (smooth 5) monitor-lent n (λ k l. monitor-suited k) 5 memory
+accepted : programVerdict (monitor-system .tables) ≡ acceptedNumber
+accepted = windows-accepted _ (monitor-accepted .windows)
+
+pub filter-own : Own (monitor-system .tables) 5
+filter-own = private-own (monitor-system .tables) accepted 5 memory
+
+-- the configuration of Giotto's execution before tick n
+abbrev at : ℕ → Configuration
+at n = execution monitor-program (smooth 5) interrupted n
+
+at-2 : at 2 .time ≡ 2
+unfolding computed
+at-2 = refl
+
+pub filter-written : PrivateAfter (monitor-system .tables) (results monitor-program (smooth 5) (at 2 .ports)) (at 2) (at 3) 5
+filter-written =
+    private-written (monitor-system .tables) accepted _ (valueOf (interrupted 2)) (at 2) (at 3)
+    (execution-is-by-001 (monitor-system .tables) accepted (smooth 5) interrupted .succeeds 2 at-2) 5 memory
+
+pub filter-memory : (n : ℕ) → Remembers monitor-system (smooth 5) filter-lent n 5
+filter-memory n = private-run monitor-system monitor-accepted (smooth 5) filter-lent n (λ k l. filter-suited k) 5 memory
 
 -- mode 1 is entered at tick 4 and left at tick 6, and does not invoke task 0
 in-mode-1 : execution monitor-program (smooth 5) interrupted 6 .mode ≡ 1
@@ -96,24 +120,24 @@ unfolding computed
 remembered = refl
 
 -- task 0 completes in tick 0: its new value is kept beside the local outputs, and enters the port at its termination, tick 2
-kept : valueOf (stateAt monitor-system monitor-lent 1 .outputs) 5 ≡ pos 40
+kept : valueOf (stateAt monitor-system filter-lent 1 .outputs) 5 ≡ pos 40
 unfolding computed
 kept = refl
 
-not-yet : valueOf (stateAt monitor-system monitor-lent 2 .ports) 5 ≡ pos 0
+not-yet : valueOf (stateAt monitor-system filter-lent 2 .ports) 5 ≡ pos 0
 unfolding computed
 not-yet = refl
 
-entered : valueOf (stateAt monitor-system monitor-lent 3 .ports) 5 ≡ pos 40
+entered : valueOf (stateAt monitor-system filter-lent 3 .ports) 5 ≡ pos 40
 unfolding computed
 entered = refl
 
 -- task 0 ends at ticks 8 and 10
-ends-8 : Ends monitor-system (smooth 5) monitor-lent 8 0
+ends-8 : Ends monitor-system (smooth 5) filter-lent 8 0
 unfolding computed
 ends-8 = record { instant = refl; completed = (refl, (0, record { in-table = omega arith; of-mode = refl; is-due = refl }, refl)) }
 
-ends-10 : Ends monitor-system (smooth 5) monitor-lent 10 0
+ends-10 : Ends monitor-system (smooth 5) filter-lent 10 0
 unfolding computed
 ends-10 = record { instant = refl; completed = (refl, (0, record { in-table = omega arith; of-mode = refl; is-due = refl }, refl)) }
 
@@ -139,18 +163,18 @@ unfolding computed
 given-10 = refl
 
 -- so what it gives is no function of its inputs alone
-pub filter-remembers : Forgets monitor-system (smooth 5) monitor-lent 0 4 → ⊥
+pub filter-remembers : Forgets monitor-system (smooth 5) filter-lent 0 4 → ⊥
 filter-remembers f = omega (arith, ap natAbs (sym (told 7 50 ends-8 given-8 inputs-8) ∙ told 9 60 ends-10 given-10 inputs-10))
   where
     -- at a tick at which it ends with input 60, what it gives is g of 60
-    told : (n x : ℕ) → Ends monitor-system (smooth 5) monitor-lent (suc n) 0
+    told : (n x : ℕ) → Ends monitor-system (smooth 5) filter-lent (suc n) 0
         → valueOf (portsInTick monitor-program (smooth 5) interrupted (suc n)) 4 ≡ pos x
         → valuesOf (portsInTick monitor-program (smooth 5) interrupted n) inputs ≡ pos 60 ∷ []
         → f .g (pos 60 ∷ []) ≡ pos x
     told n x e q i =
-        sym (ap (f .g) (ap (λ (v : List ℤ). valuesOf v inputs) (monitor-right n .ports) ∙ i))
+        sym (ap (f .g) (ap (λ (v : List ℤ). valuesOf v inputs) (filter-right n .ports) ∙ i))
         ∙ sym (f .always (suc n) e)
-        ∙ ap (λ (v : List ℤ). valueOf v 4) (monitor-right (suc n) .ports)
+        ∙ ap (λ (v : List ℤ). valueOf v 4) (filter-right (suc n) .ports)
         ∙ q
 
 -- The insulation monitor, with what its tasks compute and the readings of examples/insulation.ticks: every tick is right

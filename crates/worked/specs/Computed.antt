@@ -3,8 +3,8 @@
 use Rattle.theory.specs.Search.{any, firstFrom, first}
 use Rattle.cells.specs.Cell.{nameOf, numAt, nameAt, wordAt}
 use Rattle.readings.specs.Reading.{inside, isMissing, isValue}
-use Rattle.program.specs.Sets.{isKind, mayTake, mayGive, isTaskPort, modePortAt, isInput, isOutput, isModePort, copiesFrom, copiesTo, isSource}
-use Rattle.program.specs.Sets.{isDestination}
+use Rattle.program.specs.Sets.{isKind, mayTake, mayGive, isTaskPort, modePortAt, isInput, isOutput, isModePort, copiesFrom}
+use Rattle.program.specs.Sets.{copiesTo, isSource, isDestination}
 use Rattle.program.specs.Units.{misses, rowMisses, isMultiple, units}
 use Rattle.rules.specs.Declared.{samePort, taskPortClash, taskPortsBad, guardWrong, copyClash, copiesBad, modePortClash, modePortsBad}
 use Rattle.rules.specs.Fields.{inRange, portBad, taskBad, taskPortBad, alwaysFits, intervalFits, driverBad, copyBad, modeBad, modePortBad}

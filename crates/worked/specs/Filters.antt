@@ -51,8 +51,8 @@ interrupted n = elim (ltb n 4) [
   | false ↦ elim (eqb n 4) [ true ↦ reading noReading | false ↦ reading (pos 60) ]
 ]
 
--- what the tasks of the insulation monitor compute: the filter, with its memory in port 9; the evaluation, good from 50 on; the relay's task,
--- which follows what was judged; the signal, which releases the coil
+-- what the tasks of the insulation monitor compute: the filter, with its memory in port 9; the evaluation, good from 50 on; the relay's
+-- task, which follows what was judged; the signal, which releases the coil
 abbrev pub judged : List ℤ → ℤ
 judged [] = pos 0
 judged (x ∷ xs) = elim (leZ (pos 50) x) [ true ↦ pos 1 | false ↦ pos 0 ]
