@@ -1,5 +1,5 @@
 -- The executable instant is 001's successor configuration, a configuration has one successor, and the execution goes by successors. The
--- tasks of a mode, and what an instant leaves as it was; the active tasks are of the mode.
+-- tasks of a mode, and what an instant leaves as it was, private ports too; the active tasks are of the mode.
 pub mod Steps
 pub mod Drives
 pub mod Outputs

@@ -1,4 +1,5 @@
--- The program that the tables say: its parts are the tables' rows, by number and those that are due; the next unit.
+-- The program that the tables say: its parts are the tables' rows, by number and those that are due; the ports that a task takes and
+-- gives; the next unit.
 -- Assumes of a part by number that it is declared.
 use Prim.Native.Nat.{ℕ, suc, _%_, _<_}
 use mathlib.Core.Path.{_≡_, refl, sym, ap, subst, _∙_}
