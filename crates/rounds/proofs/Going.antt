@@ -18,7 +18,7 @@ use Rattle.layout.specs.declared.counts.Counts.{Counts}
 use Rattle.layout.specs.Counts.{countsIn, beforeFuture, sizeOf, mostBlock, mostMode, mostCode}
 use Rattle.layout.proofs.Limits.{unit-most, mode-most, few-rows}
 use Rattle.runs.specs.declared.block.Span.{Span}
-use Rattle.runs.specs.Schedule.{scheduleCount, rowsOf, blockOf, Sorted, found, spanOf}
+use Rattle.runs.specs.Schedule.{rowsOf, blockOf, Sorted, found, spanOf}
 use Rattle.runs.specs.Round.{Course, Break, none, outside, late, worstCase, judge, nothing, worstBreak}
 use Rattle.runs.proofs.Blocks.{behind-later, found-within, found-behind, block-found}
 use Rattle.suppliers.specs.Supplier.{breakNumber, breakTick}
@@ -120,12 +120,6 @@ module _ (T : Tables) (W S : List ℤ) (sensors s m u ticks first from : ℕ) wh
           e,
           unit-most _ _ _ sensors m u few z k,
         )
-
-    -- the rows found of the next block are rows of the schedule
-    pub going-found : (a : ℕ) {span : Span} → span ≡ found S row s a → (span .begin ≤ span .end) × (span .end ≤ scheduleCount S)
-    going-found a q =
-        let w = found-within S s a row (h .come .within) in
-        subst (λ (x : Span). (x .begin ≤ x .end) × (x .end ≤ scheduleCount S)) (sym q) (w .1, w .2)
 
     -- the next unit, as it was counted, found and run
     module _ {c : Counts} {before : ℕ} {span : Span} {part : List ℤ} {unit : Ended} (o : Sorted S) (l : k < u) (d : c ≡ counts k) (b : before ≡ beforeFuture c)

@@ -13,42 +13,21 @@ use lib.IntN.{ℤ, pos}
 use lib.ListN.{length, drop, length-drop}
 use lib.Seq.{length-take-le, getD-take, getD-drop}
 use Rattle.theory.specs.Claim.{Says}
-use Rattle.theory.specs.Search.{firstFrom}
 use Rattle.theory.specs.Lists.{those, each}
-use Rattle.theory.proofs.Search.{from-here, from-next, Finds, finds}
+use Rattle.theory.proofs.Search.{Finds, finds}
 use Rattle.theory.proofs.Lists.{those-split, those-none, those-each, each-same}
 use Rattle.theory.proofs.Bools.{is-true, is-false, says-lt, says-le, says-eq, says-and, says-or}
 use Rattle.cells.specs.Cell.{cellAt, numAt, nameAt}
+use Rattle.runs.proofs.Halving.{Rising, Halved, halved-all}
 use Rattle.runs.specs.Tick.{Row}
 use Rattle.runs.specs.declared.block.Span.{Span}
 use Rattle.runs.specs.Schedule.{scheduleWidth, kindColumn, taskColumn, timeoutColumn, scheduleCount, rowSupplier, rowAddress, rowOf}
 use Rattle.runs.specs.Schedule.{rowsOf, blockOf, Sorted, reaches, Behind, reach, found, spanOf}
 
-module _ (S : List ℤ) (from s a : ℕ) where
-  -- a search for supplier s and address a ends at a row that does not come before them
-  pub reach-here : from < scheduleCount S → reaches S s a from ≡ true → reach S from s a ≡ from
-  unfolding reach
-  reach-here l e =
-      let z : scheduleCount S - from ≡ suc (scheduleCount S - (from + 1)) = omega arith in
-      ap (λ (k : ℕ). firstFrom (reaches S s a) k from) z ∙ from-here (reaches S s a) (scheduleCount S - (from + 1)) from e
-
-  -- a search for supplier s and address a passes over a row that comes before them
-  pub reach-next : from < scheduleCount S → reaches S s a from ≡ false → reach S from s a ≡ reach S (from + 1) s a
-  unfolding reach
-  reach-next l e =
-      let z : scheduleCount S - from ≡ suc (scheduleCount S - (from + 1)) = omega arith in
-      ap (λ (k : ℕ). firstFrom (reaches S s a) k from) z ∙ from-next (reaches S s a) (scheduleCount S - (from + 1)) from e
-
-  -- a search that begins past the last row stays where it is
-  pub reach-end : scheduleCount S ≤ from → reach S from s a ≡ from
-  unfolding reach firstFrom
-  reach-end l =
-      let z : scheduleCount S - from ≡ 0 = omega arith in ap (λ (k : ℕ). firstFrom (reaches S s a) k from) z
-
-  -- a search for supplier s and address a finds the first row that does not come before them
-  reach-finds : Finds (reaches S s a) (scheduleCount S - from) from (reach S from s a)
-  unfolding reach
-  reach-finds = finds (reaches S s a) (scheduleCount S - from) from
+-- a search for supplier s and address a finds the first row that does not come before them
+reach-finds : (S : List ℤ) (from s a : ℕ) → Finds (reaches S s a) (scheduleCount S - from) from (reach S from s a)
+unfolding reach
+reach-finds S from s a = finds (reaches S s a) (scheduleCount S - from) from
 
 -- what the test whether row i comes before supplier s and address a says
 reaches-says : (S : List ℤ) (s a i : ℕ) → Says (reaches S s a i) ((s < rowSupplier S i) ⊎ ((rowSupplier S i ≡ s) × (a ≤ rowAddress S i)))
@@ -74,6 +53,11 @@ behind-supplier S s r a b n l h i k =
     is-false (reaches-says S r b i)
     (λ w. reaches-says S s a i .no (h i k) (inl (⊎-elim (λ v. omega arith) (λ v. omega arith) w)))
 
+-- two searches, the second from where the first ended and for the next address, find the block
+pub found-is : (S : List ℤ) (s a from begin end next : ℕ) → next ≡ suc a → begin ≡ reach S from s a → end ≡ reach S begin s next
+    → record { begin = begin; end = end } ≡ found S from s a
+found-is S s a from begin end next n b e = simp (e, n, b) refl
+
 -- the rows found as the block are rows of the schedule, from `from` on
 pub found-within : (S : List ℤ) (s a from : ℕ) → from ≤ scheduleCount S
     → (from ≤ found S from s a .begin) × (found S from s a .begin ≤ found S from s a .end) × (found S from s a .end ≤ scheduleCount S)
@@ -92,8 +76,8 @@ found-behind S s a from h i l = go (decLt i from) (decLt i (reach S from s a))
     go (no u) (no v) = reach-finds S (reach S from s a) s (suc a) .least i (omega arith) l
 
 -- in a sorted schedule, the rows after one that does not come before s and a do not come before them either
-sorted-reaches : (S : List ℤ) (s a j i : ℕ) → Sorted S → j ≤ i → i < scheduleCount S → reaches S s a j ≡ true → reaches S s a i ≡ true
-sorted-reaches S s a j i o l u e = ⊎-elim (λ q. subst (λ (k : ℕ). reaches S s a k ≡ true) q e) later (eq-or-lt-of-le l)
+pub sorted-reaches : (S : List ℤ) (s a : ℕ) → Sorted S → Rising (reaches S s a) (scheduleCount S)
+sorted-reaches S s a o j i l u e = ⊎-elim (λ q. subst (λ (k : ℕ). reaches S s a k ≡ true) q e) later (eq-or-lt-of-le l)
   where
     later : j < i → reaches S s a i ≡ true
     later m = is-true (reaches-says S s a i) (⊎-elim (λ v. inl (omega (arith, o .by-supplier j i m u))) same (reaches-says S s a j .yes e))
@@ -106,6 +90,12 @@ sorted-reaches S s a j i o l u e = ⊎-elim (λ q. subst (λ (k : ℕ). reaches 
             go (no k) =
                 let q : rowSupplier S i ≡ s = omega (arith, v .0, o .by-supplier j i m u) in
                 inr (q, omega (arith, v .1, o .by-address j i m u (v .0 ∙ sym q)))
+
+-- a search by halving in a sorted schedule finds the first row that does not come before supplier s and address a
+pub halved-reach : (S : List ℤ) (s a from low high : ℕ) → from ≤ low → low ≤ scheduleCount S → high ≤ low
+    → Halved (reaches S s a) (scheduleCount S) from low high → low ≡ reach S from s a
+unfolding reach
+halved-reach S s a from low high = halved-all (reaches S s a) (scheduleCount S) from low high
 
 -- row i is of the block of supplier s at address a
 abbrev isOf : List ℤ → ℕ → ℕ → ℕ → Bool
@@ -185,7 +175,7 @@ module _ (S : List ℤ) (s a from : ℕ) (o : Sorted S) (l : from ≤ scheduleCo
       go i u v =
           let w = found-within S s a from l in
           let r = reach-finds S from s a .has (omega (arith, w .1, w .2)) in
-          in-block S s a i (sorted-reaches S s a begin i o u (omega (arith, w .1, w .2)) r) (reach-finds S begin s (suc a) .least i u (omega arith))
+          in-block S s a i (sorted-reaches S s a o begin i u (omega (arith, w .1, w .2)) r) (reach-finds S begin s (suc a) .least i u (omega arith))
 
   -- the rows after those found are not of the block
   none-after : those (isOf S s a) (rowOf S) (scheduleCount S - end) end ≡ []
@@ -195,7 +185,7 @@ module _ (S : List ℤ) (s a from : ℕ) (o : Sorted S) (l : from ≤ scheduleCo
       go i u v =
           let w = found-within S s a from l in
           let r = reach-finds S begin s (suc a) .has (omega (arith, w .1, w .2)) in
-          after-block S s a i (sorted-reaches S s (suc a) end i o u (omega (arith, w .1, w .2)) r)
+          after-block S s a i (sorted-reaches S s (suc a) o end i u (omega (arith, w .1, w .2)) r)
 
   -- the block is the rows found
   block-is : blockOf S s a ≡ each (rowOf S) (end - begin) begin

@@ -8,6 +8,7 @@ pub mod First
 pub mod Same
 pub mod Exactly
 pub mod Windows
+pub mod Halving
 pub mod Blocks
 pub mod Rows
 pub mod Turns

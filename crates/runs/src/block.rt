@@ -1,8 +1,8 @@
-// The block of a supplier at an address: a part of a schedule that is sorted by supplier, then address. One walk finds them all.
+// The block of a supplier at an address: a part of a schedule that is sorted by supplier, then address. Both its ends are found by halving.
 ghost use mathlib.Core.Path.{_≡_};
 ghost use Prim.Native.Nat.{_≤_};
 ghost use Rattle.cells.specs.Cell.{greatestWord};
-ghost use Rattle.runs.specs.Schedule.{scheduleCount, reaches, reach, found, spanOf};
+ghost use Rattle.runs.specs.Schedule.{scheduleCount, Sorted, reaches, reach, found, spanOf};
 use cells::columns::schedule;
 use cells::parts;
 use cells::table;
@@ -22,25 +22,32 @@ fn reaches(rows: &[i32], supplier: usize, address: usize, i: usize) -> bool
     (supplier < owner) | ((owner == supplier) & (address <= own))
 }
 
-// The first row from row `from` on that does not come before this supplier and address; after the last row where each does.
+// The first row from row `from` on that does not come before this supplier and address, if the rows are sorted; after the last row
+// where each does. Each row asked halves the rows that are left; of rows that are not sorted, some row or their end.
 fn reach(rows: &[i32], from: usize, supplier: usize, address: usize) -> usize
-    ensures { λ r. ⌜ r ≡ reach (now (rows .entry)) from supplier address ⌝ }
+    requires { ⌜ from ≤ scheduleCount (now rows) ⌝ }
+    ensures { λ r. ⌜ (from ≤ r) × (r ≤ scheduleCount (now (rows .entry))) ⌝ }
+    ensures { λ r. ⌜ (Sorted (now (rows .entry)) → r ≡ reach (now (rows .entry)) from supplier address) ⌝ }
 {
-    let n = rows.len() / schedule::WIDTH;
-    let mut i = from;
-    while i < n {
-        if reaches(rows, supplier, address, i) {
-            return i;
+    let mut low = from;
+    let mut high = rows.len() / schedule::WIDTH;
+    while low < high {
+        let middle = low + (high - low) / 2;
+        if reaches(rows, supplier, address, middle) {
+            high = middle;
+        } else {
+            low = middle + 1;
         }
-        i += 1;
     }
-    i
+    low
 }
 
 // Where the block of a supplier at an address stands in a sorted schedule, if no row of it comes before row `from`.
 pub fn find(rows: &[i32], from: usize, supplier: usize, address: usize) -> Span
+    requires { ⌜ from ≤ scheduleCount (now rows) ⌝ }
     requires { ⌜ address ≤ greatestWord ⌝ }
-    ensures { λ r. ⌜ r ≡ found (now (rows .entry)) from supplier address ⌝ }
+    ensures { λ r. ⌜ (r .begin ≤ r .end) × (r .end ≤ scheduleCount (now (rows .entry))) ⌝ }
+    ensures { λ r. ⌜ (Sorted (now (rows .entry)) → r ≡ found (now (rows .entry)) from supplier address) ⌝ }
 {
     let begin = reach(rows, from, supplier, address);
     let end = reach(rows, begin, supplier, address + 1);

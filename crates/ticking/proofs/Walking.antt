@@ -1,4 +1,4 @@
--- One walk over the schedule's rows, supplier after supplier: what is known before supplier j, and that all of it comes to
+-- The blocks of a tick, supplier after supplier, each sought behind the last: what is known before supplier j, and that it comes to
 -- the shares of the tick. Assumes, of what is known, that the schedule is sorted.
 use Prim.Native.Nat.{ℕ, suc, _+_, _≤_}
 use mathlib.Core.Path.{_≡_, refl, sym, ap, ap₂, subst, _∙_}
@@ -16,7 +16,7 @@ use Rattle.runs.specs.declared.block.Span.{Span}
 use Rattle.runs.specs.declared.turn.Turn.{Turn}
 use Rattle.runs.specs.Tick.{Row, turnOf, turn}
 use Rattle.runs.specs.Schedule.{scheduleCount, rowsOf, blockOf, Sorted, Behind, found, spanOf}
-use Rattle.runs.proofs.Blocks.{behind-none, behind-supplier, found-within, found-behind, block-found}
+use Rattle.runs.proofs.Blocks.{behind-none, behind-supplier, found-behind, block-found}
 use Rattle.machine.specs.declared.State.{State}
 use Rattle.machine.specs.declared.Running.{Running}
 use Rattle.machine.specs.declared.Shares.{Shares}
@@ -30,13 +30,6 @@ module _ (S : List ℤ) (s : State) where
     pub behind : Behind S j (s .current) from
     pub moved : positions ≡ filled (movedOf S s) j (s .positions)
     pub who : running ≡ told (whoRuns (actOf S s) j)
-
-  -- the rows that the code finds are rows of the schedule, sorted or not
-  pub walk-within : (from j : ℕ) (at : Span) → from ≤ scheduleCount S → at ≡ found S from j (s .current)
-      → (at .begin ≤ at .end) × (at .end ≤ scheduleCount S)
-  walk-within from j at l is-found =
-      let w = found-within S j (s .current) from l in
-      subst (λ (at : Span). (at .begin ≤ at .end) × (at .end ≤ scheduleCount S)) (sym is-found) (w .1, w .2)
 
   -- the walk begins at row 0, before supplier 0
   pub walk-begun : (t : Task) → t .0 ≡ nameOf 0 → Walked (s .positions) (record { count = 0; job = t }) 0 0

@@ -40,7 +40,7 @@ fn join(before: Running, t: Turn) -> Running
     }
 }
 
-// Who runs in a tick and the positions after it: each supplier has its turn on its block, and one walk over the rows finds all blocks.
+// Who runs in a tick and the positions after it: each supplier has its turn on its block, sought behind the one before.
 fn turns(rows: &[i32], s: State) -> Shares
     requires { ⌜ s .current ≤ greatestWord ⌝ }
     ensures { λ r. ⌜ (Sorted (now (rows .entry)) → r ≡ sharesOf (now (rows .entry)) s) ⌝ }

@@ -7,7 +7,7 @@ use borrow.Author.Needs.{needs}
 use Rattle.program.specs.Tables.{tablesIn}
 use Rattle.layout.specs.Few.{Sized}
 use Rattle.layout.proofs.Limits.{counts-sized, few-rows}
-use Rattle.rounds.proofs.Going.{Going, going-none, going-near, going-found, going-more, going-breaks, going-all}
+use Rattle.rounds.proofs.Going.{Going, going-none, going-near, going-more, going-breaks, going-all}
 use Rattle.rounds.proofs.round.one_round.Statement.{statement}
 use Rattle.rounds.proofs.round.one_round.Tie as tie
 
@@ -55,10 +55,10 @@ find-requires c κs =
     let s = t .before .before .before .before .before .before .before in
     let near =
     going-near _ _ _ _ _ _ _ _ _ _ (t .before .before .loop .inv (pos 0)) (s .pre .0 (pos 0)) (s .pre .1 .0) (s .pre .1 .1 .0) (s .pre .1 .1 .1 .1 .0) (t .count .ensures) in
-    omega (arith, c .before-future .ensures, near)
+    (t .before .before .loop .inv (pos 0) .come .within, omega (arith, c .before-future .ensures, near))
 
 rows-at-requires : tie.Need-rows-at-requires Inv-loop μ-loop
-rows-at-requires c κs = going-found _ _ _ _ _ _ _ _ _ _ (c .before .before .before .before .loop .inv (pos 0)) _ (c .find .ensures)
+rows-at-requires c κs = c .find .ensures .0
 
 one-unit-requires : tie.Need-one-unit-requires Inv-loop μ-loop
 one-unit-requires c κs =
@@ -70,7 +70,7 @@ returns c start =
     let t = r .before .before .before .before in
     let s = t .before .before .before .before .before .before .before in
     going-breaks _ _ _ _ _ _ _ _ _ _ (t .before .before .loop .inv start) (s .pre .1 .1 .1 .1 .1 .0) (t .before .loop-test .taken)
-    (t .count .ensures) (r .before .before .before .before-future .ensures) (r .before .before .find .ensures) (r .before .rows-at .ensures) (r .one-unit .ensures)
+    (t .count .ensures) (r .before .before .before .before-future .ensures) (r .before .before .find .ensures .1 (s .pre .1 .1 .1 .1 .1 .0)) (r .before .rows-at .ensures) (r .one-unit .ensures)
     (c .if1 .taken)
 
 block-size-requires : tie.Need-block-size-requires Inv-loop μ-loop
@@ -101,7 +101,7 @@ loop-again c start =
     let t = r .before .before .before .before in
     let s = t .before .before .before .before .before .before .before in
     going-more _ _ _ _ _ _ _ _ _ _ (t .before .before .loop .inv start) (s .pre .1 .1 .1 .1 .1 .0) (t .before .loop-test .taken)
-    (t .count .ensures) (r .before .before .before .before-future .ensures) (r .before .before .find .ensures) (r .before .rows-at .ensures) (r .one-unit .ensures)
+    (t .count .ensures) (r .before .before .before .before-future .ensures) (r .before .before .find .ensures .1 (s .pre .1 .1 .1 .1 .1 .0)) (r .before .rows-at .ensures) (r .one-unit .ensures)
     (c .block-size .ensures) (c .before .before .if1 .left)
 
 returns-2 : tie.Need-returns-2 Inv-loop μ-loop

@@ -1,7 +1,7 @@
 -- `runs::block::find` meets its contract: the second search begins where the first ended.
-use mathlib.Core.Path.{refl}
 use native.Mathlib.Numerals.{add-one}
 use borrow.Author.Needs.{needs}
+use Rattle.runs.proofs.Blocks.{found-is}
 use Rattle.runs.proofs.block.find.Statement.{statement}
 use Rattle.runs.proofs.block.find.Tie as tie
 
@@ -15,7 +15,12 @@ reach-requires-2 : tie.Need-reach-requires-2
 reach-requires-2 c κs = search needs
 
 returns : tie.Need-returns
-returns c = simp (c .reach2 .ensures, c .before .reach .ensures, add-one) refl
+returns c =
+    let b = c .before .reach .ensures in
+    let e = c .reach2 .ensures in (
+      (e .0 .0, e .0 .1),
+      λ o. found-is _ _ _ _ _ _ _ (add-one _) (b .1 o) (e .1 o),
+    )
 
 pub find-spec : {M : Type 1} → statement M
 find-spec = tie.close (tie.spec reach-requires add-reach reach-requires-2 returns)

@@ -6,7 +6,7 @@ use lib.ListN.{length}
 use borrow.Author.Needs.{needs}
 use Rattle.cells.specs.Limits.{suppliers}
 use Rattle.runs.specs.Schedule.{scheduleCount, Sorted}
-use Rattle.ticking.proofs.Walking.{Walked, walk-within, walk-begun, walk-more, walk-ended}
+use Rattle.ticking.proofs.Walking.{Walked, walk-begun, walk-more, walk-ended}
 use Rattle.ticking.proofs.schedules.turns.Statement.{statement}
 use Rattle.ticking.proofs.schedules.turns.Tie as tie
 
@@ -27,10 +27,7 @@ find-requires : tie.Need-find-requires Inv-loop μ-loop
 find-requires c κs = search needs
 
 rows-at-requires : tie.Need-rows-at-requires Inv-loop μ-loop
-rows-at-requires c κs =
-    let l = c .before .before .loop in
-    let a = c .before .before .before .before .before .before .args in
-    walk-within (a .rows .now) (a .s) (l .from) (l .j) (c .find .result) (l .inv .0) (c .find .ensures)
+rows-at-requires c κs = c .find .ensures .0
 
 mul-tick : tie.Need-mul-tick Inv-loop μ-loop
 mul-tick c = search needs
@@ -63,11 +60,11 @@ loop-again c =
     let f = c .before .before .before .find in
     let l = c .before .before .before .before .before .loop in
     let a = c .before .before .before .before .before .before .before .before .before .args in (
-      walk-within (a .rows .now) (a .s) (l .from) (l .j) (f .result) (l .inv .0) (f .ensures) .1,
+      f .ensures .0 .1,
       search needs,
       λ o.
           walk-more (a .rows .now) (a .s) (l .positions) (l .running) (l .from) (l .j) (f .result) (b .result .now) (t .result) (c .join .result) o (l .inv .0)
-          (f .ensures) (b .ensures) (t .ensures) (c .join .ensures) (l .inv .2 o),
+          (f .ensures .1 o) (b .ensures) (t .ensures) (c .join .ensures) (l .inv .2 o),
     )
 
 returns : tie.Need-returns Inv-loop μ-loop
