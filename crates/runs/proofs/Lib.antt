@@ -1,5 +1,5 @@
 -- The laws of runs: a shorter run is dominated, the worst case decides, the judge gives the first break, windows; and the code's
--- walk over blocks, rows, windows and ticks.
+-- search for a block by halving, its walk over rows, windows and ticks.
 pub mod Tick
 pub mod Released
 pub mod Dominated

@@ -1,4 +1,4 @@
-// The block of a supplier at an address: a part of a schedule that is sorted by supplier, then address. Both its ends are found by halving.
+// The block of a supplier at an address: a part of a schedule that is sorted by supplier, then address, found by halving.
 ghost use mathlib.Core.Path.{_≡_};
 ghost use Prim.Native.Nat.{_≤_};
 ghost use Rattle.cells.specs.Cell.{greatestWord};

@@ -11,7 +11,8 @@ use Rattle.runs.proofs.block.reach.Tie as tie
 
 abbrev Inv-loop : tie.InvT-loop
 Inv-loop rows from supplier address low₀ high₀ low high =
-    (from ≤ low) × (low ≤ high) × (high ≤ scheduleCount rows) × (Sorted rows → Halved (reaches rows supplier address) (scheduleCount rows) from low high)
+    (from ≤ low) × (low ≤ high) × (high ≤ scheduleCount rows)
+    × (Sorted rows → Halved (reaches rows supplier address) (scheduleCount rows) from low high)
 
 abbrev μ-loop : tie.MeasureT-loop
 μ-loop rows from supplier address low₀ high₀ low high = halvings (high - low)
