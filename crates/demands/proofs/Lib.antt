@@ -15,4 +15,8 @@ pub mod Kept
 pub mod Idle
 pub mod Given
 pub mod Missing
+pub mod Turns
+pub mod Waiting
+pub mod Response
+pub mod Actuated
 pub mod Private

@@ -1,13 +1,16 @@
 -- A missing reading satisfies exactly one switch of every mode of an accepted program that looks at its sensor, and in a composed run it
 -- takes that switch at every instant at which it is due. The statements' premises are that the program, or the system, is accepted, and
 -- that the ticks are suited.
-use Prim.Native.Nat.{ℕ, suc, _+_, _/_, _%_, _<_}
+use Prim.Native.Nat.{ℕ, suc, _+_, _/_, _%_, _≤_, _<_}
 use mathlib.Core.Path.{_≡_, sym, ap, ap₂, _∙_}
+use mathlib.Core.Bool.{true}
 use mathlib.Core.Logic.{inl, inr}
 use native.Mathlib.Omega.{arith}
 use lib.IntN.{ℤ}
 use Rattle.theory.specs.Verdict.{Keep}
-use Rattle.program.specs.Tables.{Tables, switchTarget, modePeriod}
+use Rattle.program.specs.Tables.{Tables, switchTarget, switchDriver, modePeriod}
+use Rattle.program.specs.Guard.{guardOf, holds}
+use Rattle.program.specs.Sets.{Sensor}
 use Rattle.program.specs.Units.{units}
 use Rattle.program.specs.Program.{Mode, modeRow, programOf, mode, ticksOf, nextUnit}
 use Rattle.program.specs.Ports.{valueOf}
@@ -22,8 +25,8 @@ use Rattle.giotto.proofs.Execution.{execution-succeeds}
 use Rattle.giotto.proofs.Taken.{sensor-read, is-taken}
 use Rattle.machine.specs.Advance.{Lent}
 use Rattle.composed.specs.Related.{Related}
-use Rattle.demands.specs.Composed.{System, joined, readings, stateAt, configurationAt}
-use Rattle.demands.specs.Missing.{MissingSatisfies, GapExact, Enters, MissingTakes}
+use Rattle.demands.specs.Composed.{System, Accepted, joined, readings, stateAt, configurationAt, SuitedAt}
+use Rattle.demands.specs.Missing.{MissingSatisfies, GapExact, DueAt, Enters, TakesSwitch, MissingTakes}
 use Rattle.demands.proofs.Sound.{accepted-sound}
 use Rattle.demands.proofs.Composed.{related-always}
 
@@ -74,9 +77,12 @@ module _ (Y : System) (F : Function) (lents : ℕ → Lent) (n m : ℕ) where
       stamp : after .time ≡ n + ticksOf entered
       stamp = t ∙ sym (ap (λ (M : Mode). n + ticksOf M) row)
 
--- a missing reading takes the switch at an instant at which it is due
-pub missing-takes : MissingTakes
-missing-takes Y a F lents n f i p s w d e =
+-- a switch that is due at an instant, and whose guard holds for the reading of a sensor whatever the other ports hold, is taken
+pub due-taken : (Y : System) → Accepted Y → (F : Function) (lents : ℕ → Lent) (n : ℕ) → ((k : ℕ) → k ≤ n → SuitedAt Y F lents k)
+    → (i p : ℕ) → Sensor (Y .tables) p
+    → ((v : ℕ → ℤ) → v p ≡ valueOf (lents n .readings) p → holds (guardOf (Y .tables) (switchDriver (Y .tables) i)) v ≡ true)
+    → DueAt (Y .tables) n (configurationAt Y F lents n) i → TakesSwitch Y F lents n i
+due-taken Y a F lents n f i p s g d =
     record {
       successor = S;
       changes = taken .0;
@@ -113,5 +119,9 @@ missing-takes Y a F lents n f i p s w d e =
           in-table = d .of-mode .in-table;
           of-mode = d .of-mode .of-mode;
           is-due = d .is-due;
-          guard = w (S .after-sensors) (sensor-read T K result (valueOf (lents n .readings)) C C′ S p s ∙ e);
+          guard = g (S .after-sensors) (sensor-read T K result (valueOf (lents n .readings)) C C′ S p s);
         })
+
+-- a missing reading takes the switch at an instant at which it is due
+pub missing-takes : MissingTakes
+missing-takes Y a F lents n f i p s w d e = due-taken Y a F lents n f i p s (λ v r. w v (r ∙ e)) d

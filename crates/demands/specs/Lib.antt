@@ -15,4 +15,6 @@ pub mod Kept
 pub mod Idle
 pub mod Given
 pub mod Missing
+pub mod Response
+pub mod Actuated
 pub mod Private

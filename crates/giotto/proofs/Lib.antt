@@ -16,4 +16,6 @@ pub mod Execution
 pub mod Due
 pub mod Stays
 pub mod Private
+pub mod Round
+pub mod Actuator
 pub mod ModeTasks

@@ -42,7 +42,7 @@ use Rattle.demands.proofs.Missing.{missing-satisfies, gap-exact, missing-takes}
 use Rattle.worked.specs.Computed.{computed}
 use Rattle.worked.specs.Systems.{mix}
 use Rattle.worked.specs.Example.{insulationText}
-use Rattle.worked.specs.Insulation.{insulation, silent, insulation-system, insulationLent, MissingAt, lost}
+use Rattle.worked.specs.Insulation.{insulation, silent, insulation-system, insulationLent, MissingAt, lostFrom, lost}
 
 -- the program is accepted
 accepted : programVerdict insulation ≡ 0
@@ -101,15 +101,15 @@ pub insulation-accepted : Accepted insulation-system
 insulation-accepted = accepted-of insulation-system windows-accepted compiled each-accepted
 
 -- the resistance is a sensor; switch row 0 is for its missing reading in the normal mode, row 3 in the alarm mode
-resistance : Sensor insulation 0
+pub resistance : Sensor insulation 0
 unfolding computed
 resistance = (omega arith, refl)
 
-of-normal : SwitchOf insulation 0 0
+pub of-normal : SwitchOf insulation 0 0
 unfolding computed
 of-normal = record { in-table = omega arith; of-mode = refl }
 
-of-alarm : SwitchOf insulation 1 3
+pub of-alarm : SwitchOf insulation 1 3
 unfolding computed
 of-alarm = record { in-table = omega arith; of-mode = refl }
 
@@ -210,8 +210,8 @@ alarm-address = refl
 
 -- readings that are missing from tick 5 on: the first round of the normal mode that starts then does so at tick 20, and ten ticks later one
 -- of the alarm mode
-lost-whole : (n : ℕ) → length (lost n) ≡ maxPorts
-lost-whole n = go (ltb n 5)
+pub lost-whole : (r n : ℕ) → length (lostFrom r n) ≡ maxPorts
+lost-whole r n = go (ltb n r)
   where
     go : (b : Bool) → length {A = ℤ} (elim b [ true ↦ pos 80 ∷ replicate 63 (pos 0) | false ↦ noReading ∷ replicate 63 (pos 0) ]) ≡ maxPorts
     go true = refl
@@ -226,7 +226,7 @@ unfolding computed
 at-30 = record { instant = refl; mode = refl; unit = refl; missing = refl }
 
 pub alarm-at-20 : Enters insulation-system mix (insulationLent mix lost) 20 1
-alarm-at-20 = alarm-raised mix lost lost-whole 20 at-20
+alarm-at-20 = alarm-raised mix lost (lost-whole 5) 20 at-20
 
 pub alarm-at-30 : Enters insulation-system mix (insulationLent mix lost) 30 1
-alarm-at-30 = alarm-kept mix lost lost-whole 30 at-30
+alarm-at-30 = alarm-kept mix lost (lost-whole 5) 30 at-30

@@ -19,5 +19,6 @@ pub mod Pair
 pub mod Uses
 pub mod Given
 pub mod Insulation
+pub mod Response
 pub mod Filters
 pub mod Private

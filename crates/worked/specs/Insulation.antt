@@ -14,7 +14,7 @@ use Rattle.program.specs.Ports.{valueOf}
 use Rattle.giotto.specs.Instant.{Function}
 use Rattle.giotto.specs.Execution.{execution}
 use Rattle.machine.specs.Advance.{Lent}
-use Rattle.demands.specs.Composed.{System}
+use Rattle.demands.specs.Composed.{System, stateAt}
 use Rattle.demands.specs.Supplied.{supplied, worstTimes}
 use Rattle.worked.specs.Programs.{numbers, ports, alwaysRow, intervalRow, missingRow, driverRows}
 use Rattle.worked.specs.Systems.{room}
@@ -72,6 +72,18 @@ pub record MissingAt (F : Function) (readings : ℕ → List ℤ) (n m : ℕ) : 
   pub unit : execution (programOf insulation) F readings n .unit ≡ 0
   pub missing : valueOf (readings n) 0 ≡ noReading
 
--- readings that are good, and missing from tick 5 on
+-- readings that are good, and missing from tick r on
+abbrev pub lostFrom : ℕ → ℕ → List ℤ
+lostFrom r n = elim (ltb n r) [ true ↦ pos 80 ∷ replicate 63 (pos 0) | false ↦ noReading ∷ replicate 63 (pos 0) ]
+
+-- missing from tick 5 on
 abbrev pub lost : ℕ → List ℤ
-lost n = elim (ltb n 5) [ true ↦ pos 80 ∷ replicate 63 (pos 0) | false ↦ noReading ∷ replicate 63 (pos 0) ]
+lost = lostFrom 5
+
+-- the signal releases the coil: what task 3 gives for port 8 is 0, whatever it takes
+abbrev pub Releases : Function → Type 0
+Releases F = (values : List ℤ) → F 3 values 8 ≡ pos 0
+
+-- the relay is released after tick k
+abbrev pub Released : (ℕ → Lent) → ℕ → Type 0
+Released lents k = valueOf (stateAt insulation-system lents (suc k) .ports) 1 ≡ pos 0

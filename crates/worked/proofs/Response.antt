@@ -1,0 +1,284 @@
+-- How long until the insulation monitor of examples/ releases its relay, where the resistance is missing: twenty ticks for the switch,
+-- which are met and cannot be one less, ten for the signal's termination, none for the update. Instances of the response time's theorems.
+use Prim.Native.Nat.{ℕ, zero, suc, _+_, _≤_, _<_}
+use mathlib.Core.Path.{_≡_, refl, sym, ap, subst, _∙_}
+use mathlib.Core.List.{List, [], _∷_, _++_}
+use native.Mathlib.Nat.{dvd-mul-right}
+use native.Mathlib.Decide.{decLe}
+use native.Mathlib.Omega.{arith}
+use lib.IntN.{ℤ, pos}
+use lib.ListN.{replicate}
+use borrow.Author.Tests.{le-ltb}
+use Rattle.theory.specs.Lists.{each}
+use Rattle.theory.specs.Verdict.{Keep}
+use Rattle.theory.proofs.Order.{le-refl}
+use Rattle.readings.specs.Reading.{noReading}
+use Rattle.program.specs.Tables.{guardPort, invocationMode, invocationTask, switchTarget, switchDriver}
+use Rattle.program.specs.Sets.{Sensor}
+use Rattle.program.specs.Program.{programOf}
+use Rattle.program.specs.Ports.{valueOf}
+use Rattle.rules.specs.Missing.{SwitchOf, LooksAt, ForMissing}
+use Rattle.rules.specs.Verdict.{programRules}
+use Rattle.rules.proofs.Verdict.{program-accepted}
+use Rattle.suppliers.proofs.Accepted.{windows-accepted}
+use Rattle.giotto.specs.Instant.{Function}
+use Rattle.giotto.specs.Execution.{portsInTick}
+use Rattle.giotto.proofs.Execution.{execution-keeps}
+use Rattle.giotto.proofs.Round.{LastInstant, last-instant}
+use Rattle.machine.specs.Advance.{Lent}
+use Rattle.demands.specs.Composed.{readings, configurationAt, SuitedAt, Right}
+use Rattle.demands.specs.Kept.{InRound}
+use Rattle.demands.specs.Missing.{TakesSwitch}
+use Rattle.demands.specs.Response.{waiting, waitingFrom, Instant, modeAfter, Finds, Watches, FindsAfter, Leaves, LeavesWithin, NoTickLess}
+use Rattle.demands.specs.Response.{LongestFromStart, Slowest}
+use Rattle.demands.specs.Actuated.{terminating, Brings, Acts}
+use Rattle.demands.proofs.Composed.{composed-run}
+use Rattle.demands.proofs.Supplied.{worst-case-suited}
+use Rattle.demands.proofs.Response.{response-time, response-exact, waiting-longest, missing-leads-out, missing-since, slowest-some}
+use Rattle.demands.proofs.Actuated.{acts-in-time, reaction-time}
+use Rattle.worked.specs.Computed.{computed}
+use Rattle.worked.specs.Systems.{mix}
+use Rattle.worked.specs.Insulation.{insulation, insulation-system, insulationLent, lostFrom, Releases, Released}
+use Rattle.worked.specs.Filters.{insulationTasks}
+use Rattle.worked.proofs.Insulation.{insulation-accepted, resistance, of-normal, of-alarm, lost-whole}
+
+-- the program keeps its rules
+keep : Keep programRules insulation
+keep = program-accepted insulation .0 (windows-accepted _ (insulation-accepted .windows))
+
+-- how long the switches for the missing reading are waited for, in the normal mode and in the alarm mode; and how long the signal takes
+normal-wait : waiting insulation 0 ≡ 20
+unfolding computed
+normal-wait = refl
+
+alarm-wait : waiting insulation 3 ≡ 10
+unfolding computed
+alarm-wait = refl
+
+signal-wait : terminating insulation 5 ≡ 10
+unfolding computed
+signal-wait = refl
+
+signal-task : invocationTask insulation 5 ≡ 3
+unfolding computed
+signal-task = refl
+
+-- from unit 0 of the normal mode the wait is twenty ticks, from unit 1 ten
+from-unit-0 : waitingFrom insulation 0 0 ≡ 20
+unfolding computed
+from-unit-0 = refl
+
+from-unit-1 : waitingFrom insulation 0 1 ≡ 10
+unfolding computed
+from-unit-1 = refl
+
+-- readings that are lost from tick r on are missing there
+lost-there : (r n : ℕ) → r ≤ n → valueOf (lostFrom r n) 0 ≡ noReading
+lost-there r n l = rw (le-ltb n r l, lostFrom)
+
+-- The resistance is lost after tick 0, at which the normal mode is entered and finds a good reading
+abbrev lent-1 : ℕ → Lent
+lent-1 = insulationLent mix (lostFrom 1)
+
+suited-1 : (n : ℕ) → SuitedAt insulation-system mix lent-1 n
+suited-1 n = worst-case-suited insulation-system (insulation-accepted .windows) mix (lostFrom 1) (lost-whole 1) n
+
+starts : InRound (programOf insulation) 0 (configurationAt insulation-system mix lent-1 1) 0 0
+unfolding computed
+starts = record { unit = omega arith; tick = omega arith; next = refl; stamp = refl }
+
+watched : Watches insulation mix (lostFrom 1) 0 0
+unfolding computed
+watched = record { instant = refl; of-mode = of-normal; interval = refl; sensor = resistance }
+
+-- switch rows 0 and 3 are for the missing reading alone
+for-missing : ForMissing insulation 0 0
+unfolding computed
+for-missing = record { looks = record { guard = refl; port = refl }; low = refl; high = refl }
+
+for-missing-there : ForMissing insulation 3 0
+unfolding computed
+for-missing-there = record { looks = record { guard = refl; port = refl }; low = refl; high = refl }
+
+finds : (i : ℕ) → ForMissing insulation i 0 → (F : Function) (readings : ℕ → List ℤ) (n : ℕ) → valueOf (readings n) 0 ≡ noReading
+    → Finds insulation F readings i n
+finds i w F readings n e =
+    rw (w .low, ap (valueOf (readings n)) (w .looks .port) ∙ e, w .high) (le-refl noReading, le-refl noReading)
+
+found-1 : (b : ℕ) → FindsAfter insulation mix (lostFrom 1) 0 0 b
+found-1 b k l h e = finds 0 for-missing mix (lostFrom 1) k (lost-there 1 k (omega (arith, l)))
+
+-- the alarm mode is entered at tick 20, and the normal mode stays up to then: the bound is met
+pub alarm-exact : Leaves insulation-system mix lent-1 0 20 0
+alarm-exact =
+    subst (λ (b : ℕ). Leaves insulation-system mix lent-1 0 b 0) (ap (λ (b : ℕ). 0 + b) from-unit-0)
+    (response-exact insulation-system insulation-accepted mix lent-1 0 0 0 (λ k l. suited-1 k) starts watched (found-1 _))
+
+pub alarm-within : LeavesWithin insulation-system mix lent-1 0 (waiting insulation 0) 0
+alarm-within = response-time insulation-system insulation-accepted mix lent-1 0 0 (λ k l. suited-1 k) watched (found-1 _)
+
+pub wait-longest : LongestFromStart insulation 0
+wait-longest = waiting-longest insulation (windows-accepted _ (insulation-accepted .windows)) 0 0 of-normal
+
+-- so with a tick less the promise would be false
+target : switchTarget insulation 0 ≡ 1
+unfolding computed
+target = refl
+
+at-start : modeAfter insulation mix (lostFrom 1) 0 ≡ 0
+unfolding computed
+at-start = refl
+
+pub no-tick-less : NoTickLess
+no-tick-less claim =
+    let found = claim insulation-system insulation-accepted mix lent-1 0 0 (λ k l. suited-1 k) watched (found-1 _) in
+    let early : found .tick < 20 = omega (arith, found .in-time, normal-wait) in
+    omega
+    (arith, sym (alarm-exact .stays (found .tick) (omega arith) early ∙ at-start) ∙ found .leaves .takes .enters .mode ∙ target)
+
+-- The slowest switch that looks at the resistance, in the normal mode: row 0, and row 1 is as slow; in the alarm mode row 3
+normal-slowest : Slowest insulation 0 0 0
+unfolding computed
+normal-slowest = record { of-mode = of-normal; looks = record { guard = refl; port = refl }; no-slower = go }
+  where
+    go : (j : ℕ) → SwitchOf insulation 0 j → LooksAt insulation j 0 → waiting insulation j ≤ waiting insulation 0
+    go zero s w = omega arith
+    go (suc zero) s w = omega arith
+    go (suc (suc zero)) s w = absurd (omega (arith, s .of-mode))
+    go (suc (suc (suc zero))) s w = absurd (omega (arith, s .of-mode))
+    go (suc (suc (suc (suc j)))) s w = absurd (omega (arith, s .in-table))
+
+-- some switch is the slowest: the theorem's own
+pub alarm-slowest : (s : ℕ) × Slowest insulation 1 0 s
+unfolding computed
+alarm-slowest = slowest-some insulation 1 0 3 of-alarm (record { guard = refl; port = refl })
+
+-- a resistance that stays missing leads out of the normal mode within twenty ticks, and from tick 1 on, the first at which it is missing,
+-- before tick 21
+pub lost-leads-out : (i : ℕ) × ForMissing insulation i 0 × LeavesWithin insulation-system mix lent-1 0 (waiting insulation 0) i
+lost-leads-out =
+    missing-leads-out insulation-system insulation-accepted mix lent-1 0 0 0 (λ k l. suited-1 k) (watched .instant) resistance
+    (subst (λ (m : ℕ). Slowest insulation m 0 0) (sym at-start) normal-slowest) (λ k l h e. lost-there 1 k (omega (arith, l)))
+
+pub lost-since : (i : ℕ)
+    × ForMissing insulation i 0 × ((k : ℕ) × (k < 1 + waiting insulation 0) × TakesSwitch insulation-system mix lent-1 k i)
+lost-since =
+    missing-since insulation-system insulation-accepted mix lent-1 1 0 0 (omega arith) (λ k l. suited-1 k) resistance
+    (subst (λ (m : ℕ). Slowest insulation m 0 0) (sym at-start) normal-slowest) (λ k l h e. lost-there 1 k l)
+
+-- in the alarm mode update row 1 brings the coil, which the signal's invocation in row 5 gives, to the relay
+brings : Brings insulation 5 1 8 1
+unfolding computed
+brings =
+    record {
+      invocation = omega arith;
+      update = omega arith;
+      one-mode = refl;
+      as-often = dvd-mul-right 1 1;
+      always = refl;
+      output = ((omega arith, refl), (8, omega arith, (refl, refl)));
+      copies = (4, omega arith, refl, refl, refl);
+    }
+
+-- Whatever the tasks compute, if only the signal releases the coil, whatever the readings are, and whatever the execution times
+module _ (F : Function) (releases : Releases F) (lents : ℕ → Lent) (suited : (k : ℕ) → SuitedAt insulation-system F lents k) where
+  -- what comes in, tick by tick
+  abbrev given : ℕ → List ℤ
+  given = readings insulation-system F lents
+
+  -- tick k, if it is an instant, finds no reading
+  abbrev Missing : ℕ → Type 0
+  Missing k = Instant insulation F given k → valueOf (given k) 0 ≡ noReading
+
+  -- a wait for the switch of this row, a termination, and an update
+  reacts : (n i : ℕ) → Instant insulation F given n
+      → SwitchOf insulation (modeAfter insulation F given n) i → ForMissing insulation i 0
+      → switchTarget insulation i ≡ invocationMode insulation 5 → waiting insulation i ≤ 20
+      → ((k : ℕ) → n < k → k ≤ n + 20 → Missing k)
+      → (k : ℕ) × (k ≤ n + 30) × Released lents k
+  reacts n i e s w t l missing =
+      let at-sensor : Sensor insulation (guardPort insulation (switchDriver insulation i)) =
+      subst (Sensor insulation) (sym (w .looks .port)) resistance in
+      let watches : Watches insulation F given n i = record { instant = e; of-mode = s; interval = w .looks .guard; sensor = at-sensor } in
+      let act =
+      reaction-time insulation-system insulation-accepted F lents n i 5 1 8 1 (λ k h. suited k) watches
+      (λ k x y z. finds i w F given k (missing k x (omega (arith, y, l)) z)) t brings in
+      (act .tick, omega (arith, act .in-time, l, signal-wait), act .acts .value ∙ signals _)
+    where
+      signals : (values : List ℤ) → F (invocationTask insulation 5) values 8 ≡ pos 0
+      signals values = ap (λ (t : ℕ). F t values 8) signal-task ∙ releases values
+
+  -- from any instant on, where the later ones find no reading, the relay is released within thirty ticks
+  pub relay-released : (n : ℕ) → Instant insulation F given n → ((k : ℕ) → n < k → k ≤ n + 20 → Missing k)
+      → (k : ℕ) × (k ≤ n + 30) × Released lents k
+  unfolding computed
+  relay-released n e missing = go (modeAfter insulation F given n) refl declared
+    where
+      declared : modeAfter insulation F given n < 2
+      declared = execution-keeps insulation keep F given (suc n) .mode
+
+      go : (m : ℕ) → modeAfter insulation F given n ≡ m → m < 2 → (k : ℕ) × (k ≤ n + 30) × Released lents k
+      go zero o l =
+          let here = subst (λ (m : ℕ). SwitchOf insulation m 0) (sym o) of-normal in
+          reacts n 0 e here for-missing refl (omega (arith, normal-wait)) missing
+      go (suc zero) o l =
+          let here = subst (λ (m : ℕ). SwitchOf insulation m 3) (sym o) of-alarm in
+          reacts n 3 e here for-missing-there refl (omega (arith, alarm-wait)) missing
+      go (suc (suc m)) o l = absurd (omega (arith, l))
+
+  -- and from the first missing reading on, in tick r, which is not the first tick, in less than thirty ticks
+  pub relay-since : (r : ℕ) → 1 ≤ r → ((k : ℕ) → r ≤ k → k < r + 20 → Missing k) → (k : ℕ) × (k < r + 30) × Released lents k
+  relay-since (suc r) l missing = go (last-instant insulation keep F given r)
+    where
+      go : LastInstant insulation F given r → (k : ℕ) × (k < suc r + 30) × Released lents k
+      go b =
+          let (k, h, e) = relay-released (b .tick) (b .instant) (λ k x y z. after k x y z (decLe k r)) in
+          (k, omega (arith, h, b .up-to), e)
+        where
+          after : (k : ℕ) → b .tick < k → k ≤ b .tick + 20 → Instant insulation F given k → Dec (k ≤ r)
+              → valueOf (lents k .readings) 0 ≡ noReading
+          after k x y z (yes q) = absurd (b .none k x q z)
+          after k x y z (no q) = missing k (omega (arith, q)) (omega (arith, y, b .up-to)) z
+  relay-since zero l missing = absurd (omega (arith, l))
+
+-- With what the tasks of the monitor compute, and the resistance lost after the instant at tick 80: every tick is right, the relay is held
+-- through tick 109, and released at tick 110. So the number is met
+abbrev lent-81 : ℕ → Lent
+lent-81 = insulationLent insulationTasks (lostFrom 81)
+
+suited-81 : (n : ℕ) → SuitedAt insulation-system insulationTasks lent-81 n
+suited-81 n = worst-case-suited insulation-system (insulation-accepted .windows) insulationTasks (lostFrom 81) (lost-whole 81) n
+
+pub right-81 : (n : ℕ) → Right insulation-system insulationTasks lent-81 n
+right-81 n = composed-run insulation-system insulation-accepted .1 insulationTasks lent-81 n (λ k l. suited-81 k)
+
+pub released-81 : (k : ℕ) × (k < 81 + 30) × Released lent-81 k
+released-81 =
+    relay-since insulationTasks (λ values. refl) lent-81 suited-81 81 (omega arith) (λ k l h e. lost-there 81 k l)
+
+held-81 : each (λ k. valueOf (portsInTick (programOf insulation) insulationTasks (lostFrom 81) k) 1) 31 80
+    ≡ replicate 30 (pos 1) ++ (pos 0 ∷ [])
+unfolding computed
+held-81 = refl
+
+-- in the normal mode the relay follows its own task: from the start of the round at tick 0 it has the task's value at tick 20
+brings-there : Brings insulation 2 0 8 1
+unfolding computed
+brings-there =
+    record {
+      invocation = omega arith;
+      update = omega arith;
+      one-mode = refl;
+      as-often = dvd-mul-right 1 1;
+      always = refl;
+      output = ((omega arith, refl), (6, omega arith, (refl, refl)));
+      copies = (4, omega arith, refl, refl, refl);
+    }
+
+of-row : invocationMode insulation 2 ≡ 0
+unfolding computed
+of-row = refl
+
+pub relay-follows : Acts insulation-system mix lent-1 (0 + terminating insulation 2) (invocationTask insulation 2) 8 1
+relay-follows =
+    acts-in-time insulation-system insulation-accepted mix lent-1 0 2 0 8 1 (λ k l. suited-1 k) (at-start ∙ sym of-row) starts brings-there
