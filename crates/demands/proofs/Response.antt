@@ -92,7 +92,7 @@ module _ (Y : System) (a : Accepted Y) (F : Function) (lents : ℕ → Lent) whe
                 takes =
                     due-taken Y a F lents (n + wait) f i (guardPort T (switchDriver T i)) (w .sensor)
                     (found-holds T keep i row F (readings Y F lents) (w .interval) (w .sensor) (n + wait)
-                    (g (n + wait) later (omega arith) (through .due-then .instant)))
+                    (g (n + wait) (omega (arith, later)) (omega arith) (through .due-then .instant)))
                     (through .due-then);
                 stays = λ l x y. through .stays l x y ∙ w .of-mode .of-mode;
               },
@@ -154,12 +154,12 @@ missing-leads-out Y a F lents n p s f e h w g = go (gap (modeAt n) p s h (w .of-
 
     go : (j : ℕ) × SwitchOf T (modeAt n) j × ForMissing T j p → (i : ℕ) × ForMissing T i p × LeavesWithin Y F lents n (waiting T s) i
     go (j, o, q) =
-        let short : waiting T j ≤ waiting T s = w .no-slower j o (q .looks) in
+        let short : waiting T j ≤ waiting T s = omega (arith, w .no-slower j o (q .looks)) in
         let watches : Watches T F (readings Y F lents) n j =
         record { instant = e; of-mode = o; interval = q .looks .guard; sensor = subst (Sensor T) (sym (q .looks .port)) h } in
         let found : FindsAfter T F (readings Y F lents) j n (waiting T j) =
         λ k x y z.
-        let missing = ap (valueOf (lents k .readings)) (q .looks .port) ∙ g k x (omega (arith, y, short)) z in
+        let missing = ap (valueOf (lents k .readings)) (q .looks .port) ∙ g k (omega (arith, x)) (omega (arith, y, short)) z in
         rw (q .low, missing, q .high) (le-refl noReading, le-refl noReading) in
         let r = response-time Y a F lents n j (λ k x. f k (omega (arith, x, short))) watches found in
         (j, q, record { tick = r .tick; later = r .later; in-time = omega (arith, r .in-time, short); leaves = r .leaves })

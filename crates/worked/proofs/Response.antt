@@ -1,18 +1,26 @@
 -- How long until the insulation monitor of examples/ releases its relay, where the resistance is missing: twenty ticks for the switch,
 -- which are met and cannot be one less, ten for the signal's termination, none for the update. Instances of the response time's theorems.
-use Prim.Native.Nat.{ℕ, zero, suc, _+_, _≤_, _<_}
+use Prim.Native.Nat.{_%_, ℕ, zero, suc, _+_, _≤_, _<_}
 use mathlib.Core.Path.{_≡_, refl, sym, ap, subst, _∙_}
 use mathlib.Core.List.{List, [], _∷_, _++_}
+use mathlib.Core.Bool.{Bool, true, false, not, _&&_}
 use native.Mathlib.Nat.{dvd-mul-right}
 use native.Mathlib.Decide.{decLe}
 use native.Mathlib.Omega.{arith}
 use lib.IntN.{ℤ, pos}
-use lib.ListN.{replicate}
+use lib.Dec.{eqb, ltb}
+use lib.ListN.{length, replicate}
 use borrow.Author.Tests.{le-ltb}
 use Rattle.theory.specs.Lists.{each}
 use Rattle.theory.specs.Verdict.{Keep}
 use Rattle.theory.proofs.Order.{le-refl}
-use Rattle.readings.specs.Reading.{noReading}
+use Rattle.theory.specs.Claim.{Says}
+use Rattle.theory.specs.Search.{any}
+use Rattle.theory.proofs.Bools.{says-lt, says-eq, says-not, _and_}
+use Rattle.theory.proofs.Search.{any-says}
+use Rattle.cells.specs.Limits.{maxPorts}
+use Rattle.readings.specs.Reading.{noReading, isMissing}
+use Rattle.readings.proofs.Readings.{missing-says}
 use Rattle.program.specs.Tables.{guardPort, invocationMode, invocationTask, switchTarget, switchDriver}
 use Rattle.program.specs.Sets.{Sensor}
 use Rattle.program.specs.Program.{programOf}
@@ -21,8 +29,8 @@ use Rattle.rules.specs.Missing.{SwitchOf, LooksAt, ForMissing}
 use Rattle.rules.specs.Verdict.{programRules}
 use Rattle.rules.proofs.Verdict.{program-accepted}
 use Rattle.suppliers.proofs.Accepted.{windows-accepted}
-use Rattle.giotto.specs.Instant.{Function}
-use Rattle.giotto.specs.Execution.{portsInTick}
+use Rattle.giotto.specs.Instant.{Configuration, Function}
+use Rattle.giotto.specs.Execution.{execution, portsInTick}
 use Rattle.giotto.proofs.Execution.{execution-keeps}
 use Rattle.giotto.proofs.Round.{LastInstant, last-instant}
 use Rattle.machine.specs.Advance.{Lent}
@@ -38,7 +46,7 @@ use Rattle.demands.proofs.Response.{response-time, response-exact, waiting-long
 use Rattle.demands.proofs.Actuated.{acts-in-time, reaction-time}
 use Rattle.worked.specs.Computed.{computed}
 use Rattle.worked.specs.Systems.{mix}
-use Rattle.worked.specs.Insulation.{insulation, insulation-system, insulationLent, lostFrom, Releases, Released}
+use Rattle.worked.specs.Insulation.{insulation, insulation-system, insulationLent, lostFrom, flickers, Releases, Released}
 use Rattle.worked.specs.Filters.{insulationTasks}
 use Rattle.worked.proofs.Insulation.{insulation-accepted, resistance, of-normal, of-alarm, lost-whole}
 
@@ -135,6 +143,43 @@ no-tick-less claim =
     let early : found .tick < 20 = omega (arith, found .in-time, normal-wait) in
     omega
     (arith, sym (alarm-exact .stays (found .tick) (omega arith) early ∙ at-start) ∙ found .leaves .takes .enters .mode ∙ target)
+
+-- Only instants count: a resistance that is missing at every instant after tick 0, and good between, raises the alarm too
+flickers-whole : (n : ℕ) → length (flickers n) ≡ maxPorts
+flickers-whole n = go (ltb 0 n && eqb (n % 10) 0)
+  where
+    go : (b : Bool) → length {A = ℤ} (elim b [ true ↦ noReading ∷ replicate 63 (pos 0) | false ↦ pos 80 ∷ replicate 63 (pos 0) ]) ≡ maxPorts
+    go true = refl
+    go false = refl
+
+abbrev flickering : ℕ → Configuration
+flickering n = execution (programOf insulation) mix flickers n
+
+-- tick k is an instant after tick 0 that finds a reading: none of the first twenty is
+abbrev finds-some : ℕ → Bool
+finds-some k = (ltb 0 k && eqb (flickering k .time) k) && not (isMissing (valueOf (flickers k) 0))
+
+none-finds : any finds-some 21 ≡ false
+unfolding computed
+none-finds = refl
+
+flickers-found : FindsAfter insulation mix flickers 0 0 20
+flickers-found k l h e = finds 0 for-missing mix flickers k (go (isMissing (valueOf (flickers k) 0)) refl)
+  where
+    says : (k : ℕ) → Says (finds-some k) (((0 < k) × (flickering k .time ≡ k)) × (valueOf (flickers k) 0 ≡ noReading → ⊥))
+    says k = (says-lt 0 k and says-eq (flickering k .time) k) and says-not (missing-says (valueOf (flickers k) 0))
+
+    go : (b : Bool) → isMissing (valueOf (flickers k) 0) ≡ b → valueOf (flickers k) 0 ≡ noReading
+    go true o = missing-says (valueOf (flickers k) 0) .yes o
+    go false o =
+        absurd (any-says finds-some _ says 21 .no none-finds (k, omega (arith, h), ((l, e), missing-says (valueOf (flickers k) 0) .no o)))
+
+pub flickers-within : LeavesWithin insulation-system mix (insulationLent mix flickers) 0 (waiting insulation 0) 0
+unfolding computed
+flickers-within =
+    response-time insulation-system insulation-accepted mix (insulationLent mix flickers) 0 0
+    (λ k l. worst-case-suited insulation-system (insulation-accepted .windows) mix flickers flickers-whole k)
+    (record { instant = refl; of-mode = of-normal; interval = refl; sensor = resistance }) flickers-found
 
 -- The slowest switch that looks at the resistance, in the normal mode: row 0, and row 1 is as slow; in the alarm mode row 3
 normal-slowest : Slowest insulation 0 0 0

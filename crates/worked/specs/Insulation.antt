@@ -1,10 +1,10 @@
 -- The insulation monitor of examples/ as a system: a sensor, a filter, an evaluation and a relay, from three suppliers, in two modes; the
 -- rows of its tables, in their order, and its windows and parts. Ticks of its runs at which a missing reading is to be taken.
-use Prim.Native.Nat.{ℕ, zero, suc}
+use Prim.Native.Nat.{ℕ, zero, suc, _%_}
 use mathlib.Core.Path.{_≡_}
-use mathlib.Core.Bool.{true, false}
+use mathlib.Core.Bool.{true, false, _&&_}
 use mathlib.Core.List.{List, [], _∷_, _++_}
-use lib.Dec.{ltb}
+use lib.Dec.{eqb, ltb}
 use lib.IntN.{ℤ, pos, negsuc}
 use lib.ListN.{replicate}
 use Rattle.readings.specs.Reading.{noReading}
@@ -79,6 +79,10 @@ lostFrom r n = elim (ltb n r) [ true ↦ pos 80 ∷ replicate 63 (pos 0) | false
 -- missing from tick 5 on
 abbrev pub lost : ℕ → List ℤ
 lost = lostFrom 5
+
+-- missing at every tenth tick but the first, and good between
+abbrev pub flickers : ℕ → List ℤ
+flickers n = elim (ltb 0 n && eqb (n % 10) 0) [ true ↦ noReading ∷ replicate 63 (pos 0) | false ↦ pos 80 ∷ replicate 63 (pos 0) ]
 
 -- the signal releases the coil: what task 3 gives for port 8 is 0, whatever it takes
 abbrev pub Releases : Function → Type 0
