@@ -28,7 +28,7 @@ use Rattle.giotto.specs.Execution.{execution}
 use Rattle.giotto.proofs.Active.{enabled-says}
 use Rattle.giotto.proofs.Actuator.{actuator-takes}
 use Rattle.giotto.proofs.Execution.{execution-succeeds}
-use Rattle.giotto.proofs.Round.{unitTicks, Begins, QuietFor, next-instant, next-mode, next-unit, some-ticks, begins-through}
+use Rattle.giotto.proofs.Round.{unitTicks, BeginsUnit, QuietFor, next-instant, next-mode, next-unit, some-ticks, begins-through}
 use Rattle.machine.specs.Advance.{Lent}
 use Rattle.composed.specs.Related.{Related}
 use Rattle.demands.specs.Composed.{System, Accepted, joined, readings, stateAt, configurationAt}
@@ -74,7 +74,7 @@ module _ (T : Tables) (K : Keep programRules T) (a : ℕ) (h : a < invocationCou
   here : (k : ℕ) → k % units T m % turn ≡ k % turn
   here = around T K m (invocationFrequency T a) (fits .mode) (fits .frequency .0) of-mode
 
-  module _ (F : Function) (readings : ℕ → List ℤ) (n : ℕ) (b : Begins T F readings n m 0) where
+  module _ (F : Function) (readings : ℕ → List ℤ) (n : ℕ) (b : BeginsUnit T F readings n m 0) where
     -- in the units before the turn's end no switch is due: by rule 10 the task would be due too
     quiet : (e : ℕ) → suc e ≡ turn → QuietFor T F readings n m 0 e
     quiet e o j x y z v r i s =
@@ -104,7 +104,7 @@ module _ (T : Tables) (K : Keep programRules T) (a : ℕ) (h : a < invocationCou
         go zero o l = absurd (omega (arith, l))
         go (suc e) o l =
             let t = unitTicks T m in
-            let last : Begins T F readings (n + e * t) m (0 + e) = begins-through T K F readings n m 0 b e (quiet e (sym o)) in
+            let last : BeginsUnit T F readings (n + e * t) m (0 + e) = begins-through T K F readings n m 0 b e (quiet e (sym o)) in
             let sum : n + e * t + t ≡ n + terminating T a = omega (arith, suc-mul e t, sym (ap (λ (q : ℕ). q * t) o) ∙ takes) in
             let end : suc (0 + e) ≡ turn = omega (arith, o) in
             subst (DueThere T F readings a n) sum (record {
@@ -201,8 +201,8 @@ acts-in-time Y ok F lents n a u p q f e r w =
     K : Keep programRules T
     K = program-accepted T .0 (accepted-sound Y ok .accepted)
 
-    b : Begins T F (readings Y F lents) n (invocationMode T a) 0
-    b = subst (λ (m : ℕ). Begins T F (readings Y F lents) n m 0) e (begins-there Y ok F lents n 0 r)
+    b : BeginsUnit T F (readings Y F lents) n (invocationMode T a) 0
+    b = subst (λ (m : ℕ). BeginsUnit T F (readings Y F lents) n m 0) e (begins-there Y ok F lents n 0 r)
 
     there : DueThere T F (readings Y F lents) a n (n + terminating T a)
     there = due-there T K a (w .invocation) F (readings Y F lents) n b
@@ -210,13 +210,11 @@ acts-in-time Y ok F lents n a u p q f e r w =
 -- the whole reaction
 pub reaction-time : ReactionTime
 reaction-time Y ok F lents n i a u p q f w g e o =
-    let T = Y .tables in
-    let found = response-time Y ok F lents n i (λ k l. f k (omega (arith, l))) w g in
-    let enters = found .leaves .takes .enters in
+    let wait = response-time Y ok F lents n i (λ k l. f k (omega (arith, l))) w g in
+    let enters = wait .leaves .takes .enters in
     record {
-      tick = found .tick + terminating T a;
-      in-time = omega (arith, found .in-time);
+      wait = wait;
       acts =
-          acts-in-time Y ok F lents (found .tick) a u p q (λ k l. f k (omega (arith, l, found .in-time))) (enters .mode ∙ e)
+          acts-in-time Y ok F lents (wait .tick) a u p q (λ k l. f k (omega (arith, l, wait .in-time))) (enters .mode ∙ e)
           (enters .round) o;
     }

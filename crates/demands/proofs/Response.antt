@@ -20,7 +20,7 @@ use Rattle.rules.specs.Verdict.{programRules}
 use Rattle.rules.proofs.Verdict.{program-accepted}
 use Rattle.giotto.specs.Instant.{Configuration, Function}
 use Rattle.giotto.proofs.Execution.{execution-keeps}
-use Rattle.giotto.proofs.Round.{LastInstant, last-instant, unitTicks, Begins, instant-begins, some-ticks}
+use Rattle.giotto.proofs.Round.{LastInstant, last-instant, unitTicks, BeginsUnit, instant-begins, some-ticks}
 use Rattle.machine.specs.Advance.{Lent}
 use Rattle.demands.specs.Composed.{System, Accepted, readings, configurationAt}
 use Rattle.demands.specs.Kept.{InRound}
@@ -67,7 +67,7 @@ module _ (Y : System) (a : Accepted Y) (F : Function) (lents : ℕ → Lent) whe
     row = w .of-mode .in-table
 
     -- from the unit that tick n begins, the switch is taken at its next turn
-    leaves-from : (k : ℕ) → Begins T F (readings Y F lents) n (switchMode T i) k → SuitedFor Y F lents n (waitingFrom T i k)
+    leaves-from : (k : ℕ) → BeginsUnit T F (readings Y F lents) n (switchMode T i) k → SuitedFor Y F lents n (waitingFrom T i k)
         → FindsAfter T F (readings Y F lents) i n (waitingFrom T i k)
         → (n < n + waitingFrom T i k) × Leaves Y F lents n (n + waitingFrom T i k) i
     leaves-from k b f g = go (left T keep i row k)
@@ -105,13 +105,13 @@ module _ (Y : System) (a : Accepted Y) (F : Function) (lents : ℕ → Lent) whe
         let (k, l, b) = instant-begins T keep F (readings Y F lents) n (w .instant) in
         let short : waitingFrom T i k ≤ waiting T i = longest-from-start T keep i row .longest k in
         let found =
-        leaves-from k (subst (λ (m : ℕ). Begins T F (readings Y F lents) n m k) (sym (w .of-mode .of-mode)) b)
+        leaves-from k (subst (λ (m : ℕ). BeginsUnit T F (readings Y F lents) n m k) (sym (w .of-mode .of-mode)) b)
         (λ j x. f j (omega (arith, x, short))) (λ j x y. g j x (omega (arith, y, short))) in
         record { tick = n + waitingFrom T i k; later = found .0; in-time = omega (arith, short); leaves = found .1 }
 
   -- a tick that lies at the start of unit k begins it
   pub begins-there : (n k : ℕ) → InRound (programOf T) n (configurationAt Y F lents (suc n)) k 0
-      → Begins T F (readings Y F lents) n (configurationAt Y F lents (suc n) .mode) k
+      → BeginsUnit T F (readings Y F lents) n (configurationAt Y F lents (suc n) .mode) k
   begins-there n k r =
       record {
         declared = declared;
@@ -137,7 +137,8 @@ response-time Y a F lents n i f w g = leaves-within Y a F lents n i w f g
 pub response-exact : ResponseExact
 response-exact Y a F lents n k i f r w g =
     leaves-from Y a F lents n i w k
-    (subst (λ (m : ℕ). Begins (Y .tables) F (readings Y F lents) n m k) (sym (w .of-mode .of-mode)) (begins-there Y a F lents n k r)) f g .1
+    (subst (λ (m : ℕ). BeginsUnit (Y .tables) F (readings Y F lents) n m k) (sym (w .of-mode .of-mode)) (begins-there Y a F lents n k r))
+    f g .1
 
 -- a sensor that stays missing leads out of every mode that looks at it
 pub missing-leads-out : MissingLeadsOut
@@ -189,8 +190,10 @@ missing-since Y a F lents (suc r) p s l f h w g =
         go (no q) = g k (omega (arith, q)) (omega (arith, y, b .up-to)) z
 
     go : (i : ℕ) × ForMissing T i p × LeavesWithin Y F lents n (waiting T s) i
-        → (i : ℕ) × ForMissing T i p × ((k : ℕ) × (k < suc r + waiting T s) × TakesSwitch Y F lents k i)
-    go (i, q, v) = (i, q, (v .tick, omega (arith, v .in-time, b .up-to), v .leaves .takes))
+        → (i : ℕ) × ForMissing T i p × ((k : ℕ) × ((suc r ≤ k) × (k < suc r + waiting T s)) × TakesSwitch Y F lents k i)
+    go (i, q, v) =
+        let not-before : v .tick ≤ r → ⊥ = λ x. b .none (v .tick) (v .later) x (v .leaves .instant) in
+        (i, q, (v .tick, (omega (arith, not-before), omega (arith, v .in-time, b .up-to)), v .leaves .takes))
 missing-since Y a F lents zero p s l f h w g = absurd (omega (arith, l))
 
 -- the test that a switch row is one of a mode and looks at a port

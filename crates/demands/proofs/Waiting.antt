@@ -23,11 +23,11 @@ use Rattle.rules.specs.Fields.{SwitchFits}
 use Rattle.rules.specs.Verdict.{programRules}
 use Rattle.rules.proofs.Modes.{switch-once}
 use Rattle.giotto.specs.Instant.{Function}
-use Rattle.giotto.proofs.Round.{unitTicks, Begins, Quiet, QuietFor, some-ticks, next-instant, next-mode, next-unit, begins-through}
+use Rattle.giotto.proofs.Round.{unitTicks, BeginsUnit, Quiet, QuietFor, some-ticks, next-instant, next-mode, next-unit, begins-through}
 use Rattle.giotto.proofs.Round.{mode-through}
 use Rattle.demands.specs.Giotto.{at}
 use Rattle.demands.specs.Missing.{DueAt}
-use Rattle.demands.specs.Response.{waiting, waitingFrom, modeAfter, Finds, FindsAfter}
+use Rattle.demands.specs.Response.{waiting, waitingFrom, currentAfter, FindsInside, FindsAfter}
 use Rattle.demands.proofs.Turns.{turn-on, turn-over, turn-some, turn-ticks, around}
 
 module _ (T : Tables) (K : Keep programRules T) (i : ℕ) (h : i < switchCount T) where
@@ -66,14 +66,14 @@ module _ (T : Tables) (K : Keep programRules T) (i : ℕ) (h : i < switchCount T
 
   module _ (F : Function) (readings : ℕ → List ℤ) (interval : guardKind T d ≡ kindInterval) (sensor : Sensor T (guardPort T d)) where
     -- where the reading is in the interval, the guard holds for every valuation that has it
-    pub found-holds : (n : ℕ) → Finds T F readings i n → (v : ℕ → ℤ) → v (guardPort T d) ≡ valueOf (readings n) (guardPort T d)
+    pub found-holds : (n : ℕ) → FindsInside T F readings i n → (v : ℕ → ℤ) → v (guardPort T d) ≡ valueOf (readings n) (guardPort T d)
         → holds (guardOf T d) v ≡ true
     found-holds n w v e =
         holds-interval T d v (ne-eqb (guardKind T d) kindAlways (λ o. omega (arith, o, interval)))
         ∙ is-true (inside-says (guardLow T d) (v (guardPort T d)) (guardHigh T d)) (rw e w)
 
     -- in a unit at which the switch is not due, no other is enabled either: by rule 8 it would be this one
-    found-quiet : (n k : ℕ) → Finds T F readings i n → (k % turn ≡ 0 → ⊥) → Quiet T F readings n m k
+    found-quiet : (n k : ℕ) → FindsInside T F readings i n → (k % turn ≡ 0 → ⊥) → Quiet T F readings n m k
     found-quiet n k w o z v r j s = o (sym (here k) ∙ eqb-true (k % units T m % turn) 0 this-due)
       where
         same : j ≡ i
@@ -85,7 +85,7 @@ module _ (T : Tables) (K : Keep programRules T) (i : ℕ) (h : i < switchCount T
         this-due = subst (λ (j : ℕ). due (units T m) (switchFrequency T j) (k % units T m) ≡ true) same (s .is-due)
 
     -- where the next instant ends a turn, the switch is due there
-    due-next : (n k : ℕ) → Begins T F readings n m k → suc k % turn ≡ 0
+    due-next : (n k : ℕ) → BeginsUnit T F readings n m k → suc k % turn ≡ 0
         → DueAt T (n + unitTicks T m) (at T F readings (n + unitTicks T m)) i
     due-next n k b e =
         let mode : at T F readings (n + unitTicks T m) .mode ≡ m = next-mode T K F readings n m k b in
@@ -100,10 +100,10 @@ module _ (T : Tables) (K : Keep programRules T) (i : ℕ) (h : i < switchCount T
     -- the switch is due b ticks after tick n, at an instant, and up to then the mode stays
     pub record Waited (n b : ℕ) : Type 0 where
       pub due-then : DueAt T (n + b) (at T F readings (n + b)) i
-      pub stays : (l : ℕ) → n ≤ l → l < n + b → modeAfter T F readings l ≡ m
+      pub stays : (l : ℕ) → n ≤ l → l < n + b → currentAfter T F readings l ≡ m
 
     -- where e + 1 units of the turn are left, the switch is due at their end
-    pub waited : (n k e : ℕ) → Begins T F readings n m k → k % turn + suc e ≡ turn
+    pub waited : (n k e : ℕ) → BeginsUnit T F readings n m k → k % turn + suc e ≡ turn
         → FindsAfter T F readings i n (suc e * unitTicks T m) → Waited n (suc e * unitTicks T m)
     waited n k e b o w =
         record {
@@ -130,7 +130,7 @@ module _ (T : Tables) (K : Keep programRules T) (i : ℕ) (h : i < switchCount T
             (w (n + j * t) (omega (arith, long, suc-mul 0 t, zero-mul t, some)) (omega (arith, short, suc-mul j t)) z)
             (λ v. omega (arith, v, place, x)) z
 
-        last : Begins T F readings (n + e * t) m (k + e)
+        last : BeginsUnit T F readings (n + e * t) m (k + e)
         last = begins-through T K F readings n m k b e quiet
 
         ends : suc (k + e) % turn ≡ 0

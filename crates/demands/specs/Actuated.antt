@@ -14,7 +14,7 @@ use Rattle.machine.specs.Advance.{Lent}
 use Rattle.demands.specs.Composed.{System, Accepted, readings, stateAt, configurationAt}
 use Rattle.demands.specs.Kept.{InRound}
 use Rattle.demands.specs.Private.{Ends}
-use Rattle.demands.specs.Response.{waiting, Watches, FindsAfter, SuitedFor}
+use Rattle.demands.specs.Response.{waiting, Watches, FindsAfter, LeavesWithin, SuitedFor}
 
 -- how many ticks after the start of a round the task of invocation row a first terminates: period / task frequency
 abbrev pub terminating : Tables → ℕ → ℕ
@@ -45,20 +45,19 @@ ActsInTime =
     → InRound (programOf (Y .tables)) n (configurationAt Y F lents (suc n)) 0 0 → Brings (Y .tables) a u p q
     → Acts Y F lents (n + terminating (Y .tables) a) (invocationTask (Y .tables) a) p q
 
--- some tick up to b ticks after tick n does
-pub record ActsWithin (Y : System) (F : Function) (lents : ℕ → Lent) (n b t p q : ℕ) : Type 0 where
-  pub tick : ℕ
-  pub in-time : tick ≤ n + b
-  pub acts : Acts Y F lents tick t p q
+-- from tick n on: a wait for the switch of row i, at most period / switch frequency ticks of the mode that is left; then period / task
+-- frequency ticks of the mode that is entered, up to the first termination of the task of invocation row a; and in that tick the update
+pub record Reacts (Y : System) (F : Function) (lents : ℕ → Lent) (n i a p q : ℕ) : Type 0 where
+  pub wait : LeavesWithin Y F lents n (waiting (Y .tables) i) i
+  pub acts : Acts Y F lents (wait .tick + terminating (Y .tables) a) (invocationTask (Y .tables) a) p q
 
 -- The whole reaction: from an instant on, each later instant finds the guarded port of a switch in its interval, as for the response time;
--- an update of the switch's target mode brings an output of one of its tasks to an actuator. Then the actuator has the task's value within
--- period / switch frequency ticks of the mode that is left and period / task frequency ticks of the mode that is entered. What the readings
--- are after the switch is taken does not matter.
+-- an update of the switch's target mode brings an output of one of its tasks to an actuator. What the readings are after the switch is
+-- taken does not matter.
 abbrev pub ReactionTime : Type 0
 ReactionTime =
     (Y : System) → Accepted Y → (F : Function) (lents : ℕ → Lent) (n i a u p q : ℕ)
     → SuitedFor Y F lents n (waiting (Y .tables) i + terminating (Y .tables) a)
     → Watches (Y .tables) F (readings Y F lents) n i → FindsAfter (Y .tables) F (readings Y F lents) i n (waiting (Y .tables) i)
     → switchTarget (Y .tables) i ≡ invocationMode (Y .tables) a → Brings (Y .tables) a u p q
-    → ActsWithin Y F lents n (waiting (Y .tables) i + terminating (Y .tables) a) (invocationTask (Y .tables) a) p q
+    → Reacts Y F lents n i a p q

@@ -37,36 +37,36 @@ waitingFrom T i k =
 -- On Giotto's execution of a program, for any task function and any readings
 module _ (T : Tables) (F : Function) (readings : ℕ → List ℤ) where
   -- tick n is an instant: the program is invoked in it
-  abbrev pub Instant : ℕ → Type 0
-  Instant n = at T F readings n .time ≡ n
+  abbrev pub InstantAt : ℕ → Type 0
+  InstantAt n = at T F readings n .time ≡ n
 
   -- the mode that is current after tick n
-  abbrev pub modeAfter : ℕ → ℕ
-  modeAfter n = at T F readings (suc n) .mode
+  abbrev pub currentAfter : ℕ → ℕ
+  currentAfter n = at T F readings (suc n) .mode
 
   -- tick n finds the guarded port of switch row i in its interval: low ≤ reading ≤ high
-  abbrev pub Finds : ℕ → ℕ → Type 0
-  Finds i n = let d = switchDriver T i in Inside (guardLow T d) (valueOf (readings n) (guardPort T d)) (guardHigh T d)
+  abbrev pub FindsInside : ℕ → ℕ → Type 0
+  FindsInside i n = let d = switchDriver T i in Inside (guardLow T d) (valueOf (readings n) (guardPort T d)) (guardHigh T d)
 
   -- tick n is an instant, and switch row i is one of the mode that is current after it, with an interval on a sensor port
   pub record Watches (n i : ℕ) : Type 0 where
-    pub instant : Instant n
-    pub of-mode : SwitchOf T (modeAfter n) i
+    pub instant : InstantAt n
+    pub of-mode : SwitchOf T (currentAfter n) i
     pub interval : guardKind T (switchDriver T i) ≡ kindInterval
     pub sensor : Sensor T (guardPort T (switchDriver T i))
 
   -- each instant after tick n, and up to b ticks after it, finds the guarded port of switch row i in its interval
   abbrev pub FindsAfter : ℕ → ℕ → ℕ → Type 0
-  FindsAfter i n b = (k : ℕ) → n < k → k ≤ n + b → Instant k → Finds i k
+  FindsAfter i n b = (k : ℕ) → n < k → k ≤ n + b → InstantAt k → FindsInside i k
 
 module _ (Y : System) (F : Function) (lents : ℕ → Lent) where
   -- from tick n on the mode stays that is current after it, and tick k, an instant, takes the switch of row i: Giotto's execution and the
   -- machine enter its target mode
   pub record Leaves (n k i : ℕ) : Type 0 where
-    pub instant : Instant (Y .tables) F (readings Y F lents) k
+    pub instant : InstantAt (Y .tables) F (readings Y F lents) k
     pub takes : TakesSwitch Y F lents k i
     pub stays : (l : ℕ) → n ≤ l → l < k
-        → modeAfter (Y .tables) F (readings Y F lents) l ≡ modeAfter (Y .tables) F (readings Y F lents) n
+        → currentAfter (Y .tables) F (readings Y F lents) l ≡ currentAfter (Y .tables) F (readings Y F lents) n
 
   -- some tick after tick n, and up to b ticks after it, does
   pub record LeavesWithin (n b i : ℕ) : Type 0 where
@@ -125,24 +125,24 @@ SlowestSome = (T : Tables) (m p i : ℕ) → SwitchOf T m i → LooksAt T i p �
 -- each instant after tick n, and up to b ticks after it, finds no reading at port p
 abbrev pub MissingAfter : (T : Tables) → Function → (ℕ → List ℤ) → ℕ → ℕ → ℕ → Type 0
 MissingAfter T F readings p n b =
-    (k : ℕ) → n < k → k ≤ n + b → Instant T F readings k → valueOf (readings k) p ≡ noReading
+    (k : ℕ) → n < k → k ≤ n + b → InstantAt T F readings k → valueOf (readings k) p ≡ noReading
 
 -- A sensor that stays missing leads out of every mode that looks at it, within the slowest such switch's period / frequency: by the switch
 -- for its missing reading. (Where the target is the same mode, a new round of it is entered.)
 abbrev pub MissingLeadsOut : Type 0
 MissingLeadsOut =
     (Y : System) → Accepted Y → (F : Function) (lents : ℕ → Lent) (n p s : ℕ) → SuitedFor Y F lents n (waiting (Y .tables) s)
-    → Instant (Y .tables) F (readings Y F lents) n → Sensor (Y .tables) p
-    → Slowest (Y .tables) (modeAfter (Y .tables) F (readings Y F lents) n) p s
+    → InstantAt (Y .tables) F (readings Y F lents) n → Sensor (Y .tables) p
+    → Slowest (Y .tables) (currentAfter (Y .tables) F (readings Y F lents) n) p s
     → MissingAfter (Y .tables) F (readings Y F lents) p n (waiting (Y .tables) s)
     → (i : ℕ) × ForMissing (Y .tables) i p × LeavesWithin Y F lents n (waiting (Y .tables) s) i
 
 -- The same from the first missing reading on, in tick r, which is not the first tick: the mode that looks at the sensor is the one that is
--- current before that tick, and its switch for the missing reading is taken less than that many ticks after tick r
+-- current before that tick, and its switch for the missing reading is taken in that tick or less than that many ticks after it
 abbrev pub MissingSince : Type 0
 MissingSince =
     (Y : System) → Accepted Y → (F : Function) (lents : ℕ → Lent) (r p s : ℕ) → 1 ≤ r → SuitedFor Y F lents r (waiting (Y .tables) s)
     → Sensor (Y .tables) p → Slowest (Y .tables) (configurationAt Y F lents r .mode) p s
-    → ((k : ℕ) → r ≤ k → k < r + waiting (Y .tables) s → Instant (Y .tables) F (readings Y F lents) k
+    → ((k : ℕ) → r ≤ k → k < r + waiting (Y .tables) s → InstantAt (Y .tables) F (readings Y F lents) k
     → valueOf (lents k .readings) p ≡ noReading)
-    → (i : ℕ) × ForMissing (Y .tables) i p × ((k : ℕ) × (k < r + waiting (Y .tables) s) × TakesSwitch Y F lents k i)
+    → (i : ℕ) × ForMissing (Y .tables) i p × ((k : ℕ) × ((r ≤ k) × (k < r + waiting (Y .tables) s)) × TakesSwitch Y F lents k i)

@@ -37,7 +37,7 @@ unitTicks T m = modePeriod T m / units T m
 
 module _ (T : Tables) (F : Function) (readings : ℕ → List ℤ) where
   -- tick n of an execution begins unit k of mode m, counted on around the round: what the configuration after it says
-  pub record Begins (n m k : ℕ) : Type 0 where
+  pub record BeginsUnit (n m k : ℕ) : Type 0 where
     pub declared : m < modeCount T
     pub mode : execution (programOf T) F readings (suc n) .mode ≡ m
     pub unit : execution (programOf T) F readings (suc n) .unit ≡ suc k % units T m
@@ -71,7 +71,7 @@ module _ (T : Tables) (K : Keep programRules T) (F : Function) (readings : ℕ �
 
   -- an instant begins a unit of the mode that is current after it
   pub instant-begins : (n : ℕ) → at n .time ≡ n
-      → (k : ℕ) × (k < units T (at (suc n) .mode)) × Begins T F readings n (at (suc n) .mode) k
+      → (k : ℕ) × (k < units T (at (suc n) .mode)) × BeginsUnit T F readings n (at (suc n) .mode) k
   instant-begins n e =
       let S : SuccessorAt n = execution-succeeds T K F readings n e in (
         S .unit,
@@ -116,7 +116,7 @@ module _ (T : Tables) (K : Keep programRules T) (F : Function) (readings : ℕ �
           rest k x y z (yes q) = o (subst (λ (k : ℕ). at k .time ≡ k) q z)
           rest k x y z (no q) = b .none k x (omega (arith, y, q)) z
 
-  module _ (n m k : ℕ) (b : Begins T F readings n m k) where
+  module _ (n m k : ℕ) (b : BeginsUnit T F readings n m k) where
     -- up to the next instant nothing changes
     pub begins-waits : (d : ℕ) → d < unitTicks T m → at (suc (n + d)) ≡ at (suc n)
     begins-waits zero l = let none : n + 0 ≡ n = omega arith in ap (λ (x : ℕ). at (suc x)) none
@@ -164,7 +164,7 @@ module _ (T : Tables) (K : Keep programRules T) (F : Function) (readings : ℕ �
     next-succeeds = execution-succeeds T K F readings next next-instant
 
     -- where no switch is enabled then, it begins the next unit
-    pub begins-next : Quiet T F readings next m (suc k) → Begins T F readings next m (suc k)
+    pub begins-next : Quiet T F readings next m (suc k) → BeginsUnit T F readings next m (suc k)
     begins-next none = go (next-succeeds .step-4-to-6)
       where
         S : SuccessorAt next
@@ -172,7 +172,7 @@ module _ (T : Tables) (K : Keep programRules T) (F : Function) (readings : ℕ �
 
         go : Stays T (at next) (S .after-sensors) (S .after-switch) (at (suc next) .mode) (S .unit)
             ⊎ Changes T (at next) (S .after-sensors) (S .after-switch) (at (suc next) .mode) (S .unit)
-            → Begins T F readings next m (suc k)
+            → BeginsUnit T F readings next m (suc k)
         go (inl s) =
             let stays : at (suc next) .mode ≡ m = s .same-mode ∙ next-mode in
             record {
@@ -188,20 +188,20 @@ module _ (T : Tables) (K : Keep programRules T) (F : Function) (readings : ℕ �
             (none next-instant (S .after-sensors) (sensor-read T K _ (valueOf (readings next)) (at next) (at (suc next)) S) (c .row)
             (subst₂ (λ (m u : ℕ). SwitchEnabled T m u (S .after-sensors) (c .row)) next-mode next-unit (c .enabled)))
 
-  module _ (n m k : ℕ) (b : Begins T F readings n m k) where
+  module _ (n m k : ℕ) (b : BeginsUnit T F readings n m k) where
     -- through e units in which no switch is enabled
-    pub begins-through : (e : ℕ) → QuietFor T F readings n m k e → Begins T F readings (n + e * unitTicks T m) m (k + e)
+    pub begins-through : (e : ℕ) → QuietFor T F readings n m k e → BeginsUnit T F readings (n + e * unitTicks T m) m (k + e)
     begins-through zero q =
         let none : n ≡ n + 0 * unitTicks T m = omega (arith, zero-mul (unitTicks T m)) in
         let same : k ≡ k + 0 = omega arith in
-        subst₂ (λ (n k : ℕ). Begins T F readings n m k) none same b
+        subst₂ (λ (n k : ℕ). BeginsUnit T F readings n m k) none same b
     begins-through (suc e) q =
         let t = unitTicks T m in
         let sum : n + e * t + t ≡ n + suc e * t = omega (arith, suc-mul e t) in
         let count : suc (k + e) ≡ k + suc e = omega arith in
         let last : Quiet T F readings (n + e * t + t) m (suc (k + e)) =
         subst₂ (λ (n k : ℕ). Quiet T F readings n m k) (sym sum) (sym count) (q (suc e) (omega arith) (omega arith)) in
-        subst₂ (λ (n k : ℕ). Begins T F readings n m k) sum count
+        subst₂ (λ (n k : ℕ). BeginsUnit T F readings n m k) sum count
         (begins-next (n + e * t) m (k + e) (begins-through e (λ j x y. q j x (omega (arith, y)))) last)
 
     -- and in all their ticks, and those of the unit that then begins, the mode is m

@@ -37,8 +37,8 @@ use Rattle.machine.specs.Advance.{Lent}
 use Rattle.demands.specs.Composed.{readings, configurationAt, SuitedAt, Right}
 use Rattle.demands.specs.Kept.{InRound}
 use Rattle.demands.specs.Missing.{TakesSwitch}
-use Rattle.demands.specs.Response.{waiting, waitingFrom, Instant, modeAfter, Finds, Watches, FindsAfter, Leaves, LeavesWithin, NoTickLess}
-use Rattle.demands.specs.Response.{LongestFromStart, Slowest}
+use Rattle.demands.specs.Response.{waiting, waitingFrom, InstantAt, currentAfter, FindsInside, Watches, FindsAfter, Leaves, LeavesWithin}
+use Rattle.demands.specs.Response.{NoTickLess, LongestFromStart, Slowest}
 use Rattle.demands.specs.Actuated.{terminating, Brings, Acts}
 use Rattle.demands.proofs.Composed.{composed-run}
 use Rattle.demands.proofs.Supplied.{worst-case-suited}
@@ -46,7 +46,7 @@ use Rattle.demands.proofs.Response.{response-time, response-exact, waiting-long
 use Rattle.demands.proofs.Actuated.{acts-in-time, reaction-time}
 use Rattle.worked.specs.Computed.{computed}
 use Rattle.worked.specs.Systems.{mix}
-use Rattle.worked.specs.Insulation.{insulation, insulation-system, insulationLent, lostFrom, flickers, Releases, Released}
+use Rattle.worked.specs.Insulation.{insulation, insulation-system, insulationLent, lostFrom, flickers, Releases, RelayReleased}
 use Rattle.worked.specs.Filters.{insulationTasks}
 use Rattle.worked.proofs.Insulation.{insulation-accepted, resistance, of-normal, of-alarm, lost-whole}
 
@@ -109,7 +109,7 @@ unfolding computed
 for-missing-there = record { looks = record { guard = refl; port = refl }; low = refl; high = refl }
 
 finds : (i : ℕ) → ForMissing insulation i 0 → (F : Function) (readings : ℕ → List ℤ) (n : ℕ) → valueOf (readings n) 0 ≡ noReading
-    → Finds insulation F readings i n
+    → FindsInside insulation F readings i n
 finds i w F readings n e =
     rw (w .low, ap (valueOf (readings n)) (w .looks .port) ∙ e, w .high) (le-refl noReading, le-refl noReading)
 
@@ -133,7 +133,7 @@ target : switchTarget insulation 0 ≡ 1
 unfolding computed
 target = refl
 
-at-start : modeAfter insulation mix (lostFrom 1) 0 ≡ 0
+at-start : currentAfter insulation mix (lostFrom 1) 0 ≡ 0
 unfolding computed
 at-start = refl
 
@@ -206,7 +206,7 @@ lost-leads-out =
     (subst (λ (m : ℕ). Slowest insulation m 0 0) (sym at-start) normal-slowest) (λ k l h e. lost-there 1 k (omega (arith, l)))
 
 pub lost-since : (i : ℕ)
-    × ForMissing insulation i 0 × ((k : ℕ) × (k < 1 + waiting insulation 0) × TakesSwitch insulation-system mix lent-1 k i)
+    × ForMissing insulation i 0 × ((k : ℕ) × ((1 ≤ k) × (k < 1 + waiting insulation 0)) × TakesSwitch insulation-system mix lent-1 k i)
 lost-since =
     missing-since insulation-system insulation-accepted mix lent-1 1 0 0 (omega arith) (λ k l. suited-1 k) resistance
     (subst (λ (m : ℕ). Slowest insulation m 0 0) (sym at-start) normal-slowest) (λ k l h e. lost-there 1 k l)
@@ -233,14 +233,14 @@ module _ (F : Function) (releases : Releases F) (lents : ℕ → Lent) (suited :
 
   -- tick k, if it is an instant, finds no reading
   abbrev Missing : ℕ → Type 0
-  Missing k = Instant insulation F given k → valueOf (given k) 0 ≡ noReading
+  Missing k = InstantAt insulation F given k → valueOf (given k) 0 ≡ noReading
 
   -- a wait for the switch of this row, a termination, and an update
-  reacts : (n i : ℕ) → Instant insulation F given n
-      → SwitchOf insulation (modeAfter insulation F given n) i → ForMissing insulation i 0
+  reacts : (n i : ℕ) → InstantAt insulation F given n
+      → SwitchOf insulation (currentAfter insulation F given n) i → ForMissing insulation i 0
       → switchTarget insulation i ≡ invocationMode insulation 5 → waiting insulation i ≤ 20
       → ((k : ℕ) → n < k → k ≤ n + 20 → Missing k)
-      → (k : ℕ) × (k ≤ n + 30) × Released lents k
+      → RelayReleased F lents (suc n) (n + 30)
   reacts n i e s w t l missing =
       let at-sensor : Sensor insulation (guardPort insulation (switchDriver insulation i)) =
       subst (Sensor insulation) (sym (w .looks .port)) resistance in
@@ -248,21 +248,27 @@ module _ (F : Function) (releases : Releases F) (lents : ℕ → Lent) (suited :
       let act =
       reaction-time insulation-system insulation-accepted F lents n i 5 1 8 1 (λ k h. suited k) watches
       (λ k x y z. finds i w F given k (missing k x (omega (arith, y, l)) z)) t brings in
-      (act .tick, omega (arith, act .in-time, l, signal-wait), act .acts .value ∙ signals _)
+      record {
+        tick = act .wait .tick + terminating insulation 5;
+        not-before = omega (arith, act .wait .later);
+        in-time = omega (arith, act .wait .in-time, l, signal-wait);
+        instant = act .acts .ends .instant;
+        released = act .acts .value ∙ signals _;
+      }
     where
       signals : (values : List ℤ) → F (invocationTask insulation 5) values 8 ≡ pos 0
       signals values = ap (λ (t : ℕ). F t values 8) signal-task ∙ releases values
 
   -- from any instant on, where the later ones find no reading, the relay is released within thirty ticks
-  pub relay-released : (n : ℕ) → Instant insulation F given n → ((k : ℕ) → n < k → k ≤ n + 20 → Missing k)
-      → (k : ℕ) × (k ≤ n + 30) × Released lents k
+  pub relay-released : (n : ℕ) → InstantAt insulation F given n → ((k : ℕ) → n < k → k ≤ n + 20 → Missing k)
+      → RelayReleased F lents (suc n) (n + 30)
   unfolding computed
-  relay-released n e missing = go (modeAfter insulation F given n) refl declared
+  relay-released n e missing = go (currentAfter insulation F given n) refl declared
     where
-      declared : modeAfter insulation F given n < 2
+      declared : currentAfter insulation F given n < 2
       declared = execution-keeps insulation keep F given (suc n) .mode
 
-      go : (m : ℕ) → modeAfter insulation F given n ≡ m → m < 2 → (k : ℕ) × (k ≤ n + 30) × Released lents k
+      go : (m : ℕ) → currentAfter insulation F given n ≡ m → m < 2 → RelayReleased F lents (suc n) (n + 30)
       go zero o l =
           let here = subst (λ (m : ℕ). SwitchOf insulation m 0) (sym o) of-normal in
           reacts n 0 e here for-missing refl (omega (arith, normal-wait)) missing
@@ -272,15 +278,22 @@ module _ (F : Function) (releases : Releases F) (lents : ℕ → Lent) (suited :
       go (suc (suc m)) o l = absurd (omega (arith, l))
 
   -- and from the first missing reading on, in tick r, which is not the first tick, in less than thirty ticks
-  pub relay-since : (r : ℕ) → 1 ≤ r → ((k : ℕ) → r ≤ k → k < r + 20 → Missing k) → (k : ℕ) × (k < r + 30) × Released lents k
+  pub relay-since : (r : ℕ) → 1 ≤ r → ((k : ℕ) → r ≤ k → k < r + 20 → Missing k) → RelayReleased F lents r (r + 29)
   relay-since (suc r) l missing = go (last-instant insulation keep F given r)
     where
-      go : LastInstant insulation F given r → (k : ℕ) × (k < suc r + 30) × Released lents k
+      go : LastInstant insulation F given r → RelayReleased F lents (suc r) (suc r + 29)
       go b =
-          let (k, h, e) = relay-released (b .tick) (b .instant) (λ k x y z. after k x y z (decLe k r)) in
-          (k, omega (arith, h, b .up-to), e)
+          let found = relay-released (b .tick) (b .instant) (λ k x y z. after k x y z (decLe k r)) in
+          let later : found .tick ≤ r → ⊥ = λ x. b .none (found .tick) (found .not-before) x (found .instant) in
+          record {
+            tick = found .tick;
+            not-before = omega (arith, later);
+            in-time = omega (arith, found .in-time, b .up-to);
+            instant = found .instant;
+            released = found .released;
+          }
         where
-          after : (k : ℕ) → b .tick < k → k ≤ b .tick + 20 → Instant insulation F given k → Dec (k ≤ r)
+          after : (k : ℕ) → b .tick < k → k ≤ b .tick + 20 → InstantAt insulation F given k → Dec (k ≤ r)
               → valueOf (lents k .readings) 0 ≡ noReading
           after k x y z (yes q) = absurd (b .none k x q z)
           after k x y z (no q) = missing k (omega (arith, q)) (omega (arith, y, b .up-to)) z
@@ -297,7 +310,7 @@ suited-81 n = worst-case-suited insulation-system (insulation-accepted .windows)
 pub right-81 : (n : ℕ) → Right insulation-system insulationTasks lent-81 n
 right-81 n = composed-run insulation-system insulation-accepted .1 insulationTasks lent-81 n (λ k l. suited-81 k)
 
-pub released-81 : (k : ℕ) × (k < 81 + 30) × Released lent-81 k
+pub released-81 : RelayReleased insulationTasks lent-81 81 (81 + 29)
 released-81 =
     relay-since insulationTasks (λ values. refl) lent-81 suited-81 81 (omega arith) (λ k l h e. lost-there 81 k l)
 

@@ -1,6 +1,6 @@
 -- The insulation monitor of examples/ as a system: a sensor, a filter, an evaluation and a relay, from three suppliers, in two modes; the
 -- rows of its tables, in their order, and its windows and parts. Ticks of its runs at which a missing reading is to be taken.
-use Prim.Native.Nat.{ℕ, zero, suc, _%_}
+use Prim.Native.Nat.{ℕ, zero, suc, _%_, _≤_}
 use mathlib.Core.Path.{_≡_}
 use mathlib.Core.Bool.{true, false, _&&_}
 use mathlib.Core.List.{List, [], _∷_, _++_}
@@ -14,7 +14,7 @@ use Rattle.program.specs.Ports.{valueOf}
 use Rattle.giotto.specs.Instant.{Function}
 use Rattle.giotto.specs.Execution.{execution}
 use Rattle.machine.specs.Advance.{Lent}
-use Rattle.demands.specs.Composed.{System, stateAt}
+use Rattle.demands.specs.Composed.{System, stateAt, configurationAt}
 use Rattle.demands.specs.Supplied.{supplied, worstTimes}
 use Rattle.worked.specs.Programs.{numbers, ports, alwaysRow, intervalRow, missingRow, driverRows}
 use Rattle.worked.specs.Systems.{room}
@@ -88,6 +88,10 @@ flickers n = elim (ltb 0 n && eqb (n % 10) 0) [ true ↦ noReading ∷ replicate
 abbrev pub Releases : Function → Type 0
 Releases F = (values : List ℤ) → F 3 values 8 ≡ pos 0
 
--- the relay is released after tick k
-abbrev pub Released : (ℕ → Lent) → ℕ → Type 0
-Released lents k = valueOf (stateAt insulation-system lents (suc k) .ports) 1 ≡ pos 0
+-- the relay is released at an instant from tick r to tick t
+pub record RelayReleased (F : Function) (lents : ℕ → Lent) (r t : ℕ) : Type 0 where
+  pub tick : ℕ
+  pub not-before : r ≤ tick
+  pub in-time : tick ≤ t
+  pub instant : configurationAt insulation-system F lents tick .time ≡ tick
+  pub released : valueOf (stateAt insulation-system lents (suc tick) .ports) 1 ≡ pos 0
