@@ -1,7 +1,7 @@
 -- From a mode to an actuator, as statements: from the start of a round a task first terminates period / task frequency ticks later, and an
 -- update that is due whenever it terminates sets the actuator in that tick. So a reaction is the wait for a switch (Response: document 02,
 -- K12), a termination, and an update. Proved of these definitions in proofs/Actuated.antt.
-use Prim.Native.Nat.{ℕ, suc, _+_, _/_, _≤_, _<_, _∣_}
+use Prim.Native.Nat.{ℕ, suc, _+_, _/_, _<_, _∣_}
 use mathlib.Core.Path.{_≡_}
 use Rattle.program.specs.Tables.{Tables, guardKind, kindAlways, copyCount, copyDriver, copySource, copyDestination, modePeriod}
 use Rattle.program.specs.Tables.{invocationCount, invocationMode, invocationFrequency, invocationTask, updateCount, updateMode}

@@ -38,7 +38,7 @@ use Rattle.demands.specs.Composed.{readings, configurationAt, SuitedAt, Right}
 use Rattle.demands.specs.Kept.{InRound}
 use Rattle.demands.specs.Missing.{TakesSwitch}
 use Rattle.demands.specs.Response.{waiting, waitingFrom, InstantAt, currentAfter, FindsInside, Watches, FindsAfter, Leaves, LeavesWithin}
-use Rattle.demands.specs.Response.{NoTickLess, LongestFromStart, Slowest}
+use Rattle.demands.specs.Response.{NoTickLess, LongestFromStart, Slowest, MissingAfter}
 use Rattle.demands.specs.Actuated.{terminating, Brings, Acts}
 use Rattle.demands.proofs.Composed.{composed-run}
 use Rattle.demands.proofs.Supplied.{worst-case-suited}
@@ -193,23 +193,55 @@ normal-slowest = record { of-mode = of-normal; looks = record { guard = refl; po
     go (suc (suc (suc zero))) s w = absurd (omega (arith, s .of-mode))
     go (suc (suc (suc (suc j)))) s w = absurd (omega (arith, s .in-table))
 
--- some switch is the slowest: the theorem's own
-pub alarm-slowest : (s : ℕ) × Slowest insulation 1 0 s
+alarm-slowest : Slowest insulation 1 0 3
 unfolding computed
-alarm-slowest = slowest-some insulation 1 0 3 of-alarm (record { guard = refl; port = refl })
+alarm-slowest = record { of-mode = of-alarm; looks = record { guard = refl; port = refl }; no-slower = go }
+  where
+    go : (j : ℕ) → SwitchOf insulation 1 j → LooksAt insulation j 0 → waiting insulation j ≤ waiting insulation 3
+    go zero s w = absurd (omega (arith, s .of-mode))
+    go (suc zero) s w = absurd (omega (arith, s .of-mode))
+    go (suc (suc zero)) s w = omega arith
+    go (suc (suc (suc zero))) s w = omega arith
+    go (suc (suc (suc (suc j)))) s w = absurd (omega (arith, s .in-table))
 
--- a resistance that stays missing leads out of the normal mode within twenty ticks, and from tick 1 on, the first at which it is missing,
--- before tick 21
-pub lost-leads-out : (i : ℕ) × ForMissing insulation i 0 × LeavesWithin insulation-system mix lent-1 0 (waiting insulation 0) i
-lost-leads-out =
-    missing-leads-out insulation-system insulation-accepted mix lent-1 0 0 0 (λ k l. suited-1 k) (watched .instant) resistance
-    (subst (λ (m : ℕ). Slowest insulation m 0 0) (sym at-start) normal-slowest) (λ k l h e. lost-there 1 k (omega (arith, l)))
+-- some switch is the slowest: the theorem's own
+pub slowest-there : (s : ℕ) × Slowest insulation 1 0 s
+unfolding computed
+slowest-there = slowest-some insulation 1 0 3 of-alarm (record { guard = refl; port = refl })
 
-pub lost-since : (i : ℕ)
-    × ForMissing insulation i 0 × ((k : ℕ) × ((1 ≤ k) × (k < 1 + waiting insulation 0)) × TakesSwitch insulation-system mix lent-1 k i)
+-- Whatever the tasks compute, the readings and the execution times: a resistance that stays missing leads out of the normal mode within
+-- twenty ticks, and out of a round of the alarm mode within ten
+module _ (F : Function) (lents : ℕ → Lent) (suited : (k : ℕ) → SuitedAt insulation-system F lents k) (n : ℕ)
+    (e : InstantAt insulation F (readings insulation-system F lents) n) where
+  led-out : (m s : ℕ) → currentAfter insulation F (readings insulation-system F lents) n ≡ m → Slowest insulation m 0 s
+      → (b : ℕ) → waiting insulation s ≡ b → MissingAfter insulation F (readings insulation-system F lents) 0 n b
+      → (i : ℕ) × ForMissing insulation i 0 × LeavesWithin insulation-system F lents n b i
+  led-out m s o w b q missing =
+      subst (λ (b : ℕ). (i : ℕ) × ForMissing insulation i 0 × LeavesWithin insulation-system F lents n b i) q
+      (missing-leads-out insulation-system insulation-accepted F lents n 0 s (λ k l. suited k) e resistance
+      (subst (λ (m : ℕ). Slowest insulation m 0 s) (sym o) w)
+      (subst (MissingAfter insulation F (readings insulation-system F lents) 0 n) (sym q) missing))
+
+  pub normal-led-out : currentAfter insulation F (readings insulation-system F lents) n ≡ 0
+      → MissingAfter insulation F (readings insulation-system F lents) 0 n 20
+      → (i : ℕ) × ForMissing insulation i 0 × LeavesWithin insulation-system F lents n 20 i
+  normal-led-out o missing = led-out 0 0 o normal-slowest 20 normal-wait missing
+
+  pub alarm-led-out : currentAfter insulation F (readings insulation-system F lents) n ≡ 1
+      → MissingAfter insulation F (readings insulation-system F lents) 0 n 10
+      → (i : ℕ) × ForMissing insulation i 0 × LeavesWithin insulation-system F lents n 10 i
+  alarm-led-out o missing = led-out 1 3 o alarm-slowest 10 alarm-wait missing
+
+-- in numbers: lost after tick 0, it leads out of the normal mode by tick 20; from tick 1 on, the first at which it is missing, before tick 21
+pub lost-leads-out : (i : ℕ) × ForMissing insulation i 0 × LeavesWithin insulation-system mix lent-1 0 20 i
+lost-leads-out = normal-led-out mix lent-1 suited-1 0 (watched .instant) at-start (λ k l h e. lost-there 1 k (omega (arith, l)))
+
+pub lost-since : (i : ℕ) × ForMissing insulation i 0 × ((k : ℕ) × ((1 ≤ k) × (k < 21)) × TakesSwitch insulation-system mix lent-1 k i)
 lost-since =
+    let (i, w, (k, (x, y), t)) =
     missing-since insulation-system insulation-accepted mix lent-1 1 0 0 (omega arith) (λ k l. suited-1 k) resistance
-    (subst (λ (m : ℕ). Slowest insulation m 0 0) (sym at-start) normal-slowest) (λ k l h e. lost-there 1 k l)
+    (subst (λ (m : ℕ). Slowest insulation m 0 0) (sym at-start) normal-slowest) (λ k l h e. lost-there 1 k l) in
+    (i, w, (k, (x, omega (arith, y, normal-wait)), t))
 
 -- in the alarm mode update row 1 brings the coil, which the signal's invocation in row 5 gives, to the relay
 brings : Brings insulation 5 1 8 1
