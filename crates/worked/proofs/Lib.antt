@@ -20,5 +20,6 @@ pub mod Uses
 pub mod Given
 pub mod Insulation
 pub mod Response
+pub mod Relay
 pub mod Filters
 pub mod Private
