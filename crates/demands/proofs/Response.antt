@@ -6,8 +6,6 @@ use native.Mathlib.Nat.{zero-mod, suc-mul, mul-le-mul-right}
 use native.Mathlib.Decide.{ℕ-discrete, decLe}
 use native.Mathlib.Omega.{arith}
 use Rattle.theory.specs.Verdict.{Keep}
-use Rattle.theory.proofs.Order.{le-refl}
-use Rattle.readings.specs.Reading.{noReading}
 use Rattle.program.specs.Tables.{Tables, modeCount, guardKind, guardPort, kindInterval, switchCount, switchMode, switchFrequency}
 use Rattle.program.specs.Tables.{switchDriver}
 use Rattle.program.specs.Sets.{Sensor}
@@ -17,6 +15,7 @@ use Rattle.program.specs.Ports.{valueOf}
 use Rattle.program.proofs.Decoded.{next-around, mode-row}
 use Rattle.rules.specs.Missing.{SwitchOf, LooksAt, ForMissing, NoGap}
 use Rattle.rules.specs.Verdict.{programRules}
+use Rattle.rules.proofs.Missing.{missing-inside}
 use Rattle.rules.proofs.Verdict.{program-accepted}
 use Rattle.giotto.specs.Instant.{Configuration, Function}
 use Rattle.giotto.proofs.Execution.{execution-keeps}
@@ -159,9 +158,7 @@ missing-leads-out Y a F lents n p s f e h w g = go (gap (modeAt n) p s h (w .of-
         let watches : Watches T F (readings Y F lents) n j =
         record { instant = e; of-mode = o; interval = q .looks .guard; sensor = subst (Sensor T) (sym (q .looks .port)) h } in
         let found : FindsAfter T F (readings Y F lents) j n (waiting T j) =
-        λ k x y z.
-        let missing = ap (valueOf (lents k .readings)) (q .looks .port) ∙ g k (omega (arith, x)) (omega (arith, y, short)) z in
-        rw (q .low, missing, q .high) (le-refl noReading, le-refl noReading) in
+        λ k x y z. missing-inside T j p q (valueOf (lents k .readings)) (g k (omega (arith, x)) (omega (arith, y, short)) z) in
         let r = response-time Y a F lents n j (λ k x. f k (omega (arith, x, short))) watches found in
         (j, q, record { tick = r .tick; later = r .later; in-time = omega (arith, r .in-time, short); leaves = r .leaves })
 
@@ -183,17 +180,13 @@ missing-since Y a F lents (suc r) p s l f h w g =
     looked = subst (λ (C : Configuration). Slowest T (C .mode) p s) (b .same) w
 
     lost : MissingAfter T F (readings Y F lents) p n (waiting T s)
-    lost k x y z = go (decLe k r)
-      where
-        go : Dec (k ≤ r) → valueOf (lents k .readings) p ≡ noReading
-        go (yes q) = absurd (b .none k x q z)
-        go (no q) = g k (omega (arith, q)) (omega (arith, y, b .up-to)) z
+    lost k x y z = g k (b .next k x z) (omega (arith, y, b .up-to)) z
 
     go : (i : ℕ) × ForMissing T i p × LeavesWithin Y F lents n (waiting T s) i
         → (i : ℕ) × ForMissing T i p × ((k : ℕ) × ((suc r ≤ k) × (k < suc r + waiting T s)) × TakesSwitch Y F lents k i)
     go (i, q, v) =
-        let not-before : v .tick ≤ r → ⊥ = λ x. b .none (v .tick) (v .later) x (v .leaves .instant) in
-        (i, q, (v .tick, (omega (arith, not-before), omega (arith, v .in-time, b .up-to)), v .leaves .takes))
+        let not-before = b .next (v .tick) (v .later) (v .leaves .instant) in
+        (i, q, (v .tick, (not-before, omega (arith, v .in-time, b .up-to)), v .leaves .takes))
 missing-since Y a F lents zero p s l f h w g = absurd (omega (arith, l))
 
 -- the test that a switch row is one of a mode and looks at a port

@@ -8,19 +8,17 @@ use mathlib.Core.Logic.{inr}
 use native.Mathlib.Nat.{mod-lt, suc-mul, zero-mul, mul-le-mul-right}
 use native.Mathlib.Omega.{arith}
 use lib.IntN.{ℤ}
-use borrow.Author.Tests.{eq-eqb, eqb-true, ne-eqb}
+use borrow.Author.Tests.{eq-eqb, eqb-true}
 use Rattle.theory.specs.Verdict.{Keep}
-use Rattle.theory.proofs.Bools.{is-true}
-use Rattle.readings.proofs.Readings.{inside-says}
-use Rattle.program.specs.Tables.{Tables, modePeriod, guardKind, guardPort, guardLow, guardHigh, kindAlways, kindInterval, switchCount}
-use Rattle.program.specs.Tables.{switchMode, switchFrequency, switchDriver}
+use Rattle.program.specs.Tables.{Tables, modePeriod, guardKind, guardPort, kindInterval, switchCount, switchMode, switchFrequency}
+use Rattle.program.specs.Tables.{switchDriver}
 use Rattle.program.specs.Guard.{guardOf, holds}
 use Rattle.program.specs.Sets.{Sensor}
 use Rattle.program.specs.Units.{units, due, Frequency}
 use Rattle.program.specs.Ports.{valueOf}
-use Rattle.program.proofs.Guards.{holds-interval}
 use Rattle.rules.specs.Fields.{SwitchFits}
 use Rattle.rules.specs.Verdict.{programRules}
+use Rattle.rules.proofs.Missing.{holds-inside}
 use Rattle.rules.proofs.Modes.{switch-once}
 use Rattle.giotto.specs.Instant.{Function}
 use Rattle.giotto.proofs.Round.{unitTicks, BeginsUnit, Quiet, QuietFor, some-ticks, next-instant, next-mode, next-unit, begins-through}
@@ -68,9 +66,7 @@ module _ (T : Tables) (K : Keep programRules T) (i : ℕ) (h : i < switchCount T
     -- where the reading is in the interval, the guard holds for every valuation that has it
     pub found-holds : (n : ℕ) → FindsInside T F readings i n → (v : ℕ → ℤ) → v (guardPort T d) ≡ valueOf (readings n) (guardPort T d)
         → holds (guardOf T d) v ≡ true
-    found-holds n w v e =
-        holds-interval T d v (ne-eqb (guardKind T d) kindAlways (λ o. omega (arith, o, interval)))
-        ∙ is-true (inside-says (guardLow T d) (v (guardPort T d)) (guardHigh T d)) (rw e w)
+    found-holds n w v e = holds-inside T d v interval (rw e w)
 
     -- in a unit at which the switch is not due, no other is enabled either: by rule 8 it would be this one
     found-quiet : (n k : ℕ) → FindsInside T F readings i n → (k % turn ≡ 0 → ⊥) → Quiet T F readings n m k

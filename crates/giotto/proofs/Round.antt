@@ -49,7 +49,7 @@ module _ (T : Tables) (F : Function) (readings : ℕ → List ℤ) where
     pub up-to : tick ≤ r
     pub instant : execution (programOf T) F readings tick .time ≡ tick
     pub same : execution (programOf T) F readings (suc r) ≡ execution (programOf T) F readings (suc tick)
-    pub none : (k : ℕ) → tick < k → k ≤ r → execution (programOf T) F readings k .time ≡ k → ⊥
+    pub next : (k : ℕ) → tick < k → execution (programOf T) F readings k .time ≡ k → r < k
 
   -- in unit k of mode m no switch is enabled at values that have the readings of tick n, if that is an instant
   abbrev pub Quiet : ℕ → ℕ → ℕ → Type 0
@@ -94,7 +94,7 @@ module _ (T : Tables) (K : Keep programRules T) (F : Function) (readings : ℕ �
 
   -- an instant is the last one up to itself
   at-once : (r : ℕ) → at r .time ≡ r → LastInstant T F readings r
-  at-once r e = record { tick = r; up-to = omega arith; instant = e; same = refl; none = λ k x y. absurd (omega (arith, x, y)) }
+  at-once r e = record { tick = r; up-to = omega arith; instant = e; same = refl; next = λ k x z. x }
 
   -- some tick is the last instant up to tick r
   pub last-instant : (r : ℕ) → LastInstant T F readings r
@@ -109,12 +109,11 @@ module _ (T : Tables) (K : Keep programRules T) (F : Function) (readings : ℕ �
             up-to = omega (arith, b .up-to);
             instant = b .instant;
             same = execution-waits T K F readings (suc r) o ∙ b .same;
-            none = λ k x y z. rest k x y z (ℕ-discrete k (suc r));
+            next = λ k x z. omega (arith, b .next k x z, not-here k z);
           }
         where
-          rest : (k : ℕ) → b .tick < k → k ≤ suc r → at k .time ≡ k → Dec (k ≡ suc r) → ⊥
-          rest k x y z (yes q) = o (subst (λ (k : ℕ). at k .time ≡ k) q z)
-          rest k x y z (no q) = b .none k x (omega (arith, y, q)) z
+          not-here : (k : ℕ) → at k .time ≡ k → k ≡ suc r → ⊥
+          not-here k z q = o (subst (λ (k : ℕ). at k .time ≡ k) q z)
 
   module _ (n m k : ℕ) (b : BeginsUnit T F readings n m k) where
     -- up to the next instant nothing changes

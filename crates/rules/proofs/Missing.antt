@@ -6,6 +6,7 @@ use mathlib.Core.Bool.{Bool, true, false}
 use mathlib.Core.Logic.{_↔_, ⊎-elim}
 use native.Mathlib.Omega.{arith}
 use lib.Dec.{eqb}
+use lib.IntN.{ℤ}
 use borrow.Author.Tests.{eqb-true, eqb-false, ne-eqb, not-false}
 use Rattle.theory.specs.Claim.{Says, Bars}
 use Rattle.theory.proofs.Bools.{clash, neither, is-true, is-false, bars-and, bars-not, bars-as, says-as, says-eq, _and_}
@@ -15,7 +16,7 @@ use Rattle.readings.specs.Reading.{noReading, Inside}
 use Rattle.readings.proofs.Readings.{inside-says, missing-says, missing-only-its-own}
 use Rattle.program.specs.Tables.{Tables, driverCount, guardKind, guardPort, guardLow, guardHigh, kindAlways, kindInterval}
 use Rattle.program.specs.Tables.{switchCount, switchMode, switchDriver}
-use Rattle.program.specs.Guard.{guardOf, meet}
+use Rattle.program.specs.Guard.{guardOf, holds, meet}
 use Rattle.program.specs.Sets.{Sensor}
 use Rattle.program.proofs.Sets.{kind-says}
 use Rattle.program.proofs.Guards.{meet-says, holds-interval, always-meets, intervals-meet}
@@ -64,14 +65,20 @@ module _ (T : Tables) where
   not-always : (d : ℕ) → guardKind T d ≡ kindInterval → eqb (guardKind T d) kindAlways ≡ false
   not-always d e = ne-eqb (guardKind T d) kindAlways (λ o. omega (arith, o, e))
 
-  -- a guard of the no-reading value alone holds for a missing reading
+  -- an interval guard holds for a value inside
+  pub holds-inside : (d : ℕ) (v : ℕ → ℤ) → guardKind T d ≡ kindInterval → Inside (guardLow T d) (v (guardPort T d)) (guardHigh T d)
+      → holds (guardOf T d) v ≡ true
+  holds-inside d v k w =
+      holds-interval T d v (not-always d k) ∙ is-true (inside-says (guardLow T d) (v (guardPort T d)) (guardHigh T d)) w
+
+  -- a missing reading is inside where the guard is for it alone
+  pub missing-inside : (j p : ℕ) → ForMissing T j p → (v : ℕ → ℤ) → v p ≡ noReading
+      → Inside (guardLow T (switchDriver T j)) (v (guardPort T (switchDriver T j))) (guardHigh T (switchDriver T j))
+  missing-inside j p w v e = rw (w .low, ap v (w .looks .port) ∙ e, w .high) (le-refl noReading, le-refl noReading)
+
+  -- so a guard of the no-reading value alone holds for a missing reading
   pub holds-missing : (j p : ℕ) → ForMissing T j p → Satisfies T p j
-  holds-missing j p w v e =
-      let d = switchDriver T j in
-      let r : v (guardPort T d) ≡ noReading = ap v (w .looks .port) ∙ e in
-      holds-interval T d v (not-always d (w .looks .guard))
-      ∙ is-true (inside-says (guardLow T d) (v (guardPort T d)) (guardHigh T d))
-      (rw (w .low, r, w .high) (le-refl noReading, le-refl noReading))
+  holds-missing j p w v e = holds-inside (switchDriver T j) v (w .looks .guard) (missing-inside j p w v e)
 
   module _ (f : Fields T) where
     -- rule 2: an interval with the no-reading value in it has that value alone

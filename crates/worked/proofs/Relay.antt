@@ -4,7 +4,6 @@ use Prim.Native.Nat.{ℕ, zero, suc, _+_, _≤_, _<_}
 use mathlib.Core.Path.{_≡_, refl, sym, ap, subst, _∙_}
 use mathlib.Core.List.{List, [], _∷_, _++_}
 use native.Mathlib.Nat.{dvd-mul-right}
-use native.Mathlib.Decide.{decLe}
 use native.Mathlib.Omega.{arith}
 use lib.IntN.{ℤ, pos}
 use lib.ListN.{replicate}
@@ -17,6 +16,7 @@ use Rattle.program.specs.Program.{programOf}
 use Rattle.program.specs.Ports.{valueOf}
 use Rattle.rules.specs.Missing.{SwitchOf, ForMissing}
 use Rattle.rules.specs.Verdict.{programRules}
+use Rattle.rules.proofs.Missing.{missing-inside}
 use Rattle.rules.proofs.Verdict.{program-accepted}
 use Rattle.suppliers.proofs.Accepted.{windows-accepted}
 use Rattle.giotto.specs.Instant.{Function}
@@ -36,7 +36,7 @@ use Rattle.worked.specs.Insulation.{insulation, insulation-system, insul
 use Rattle.worked.specs.Filters.{insulationTasks}
 use Rattle.worked.proofs.Insulation.{insulation-accepted, resistance, of-normal, of-alarm, lost-whole}
 use Rattle.worked.proofs.Response.{normal-wait, alarm-wait, lost-there, lent-1, suited-1, starts, for-missing, for-missing-there}
-use Rattle.worked.proofs.Response.{finds, at-start}
+use Rattle.worked.proofs.Response.{at-start}
 
 -- the program keeps its rules
 keep : Keep programRules insulation
@@ -87,7 +87,7 @@ module _ (F : Function) (releases : Releases F) (lents : ℕ → Lent) (suited :
       let watches : Watches insulation F given n i = record { instant = e; of-mode = s; interval = w .looks .guard; sensor = at-sensor } in
       let act =
       reaction-time insulation-system insulation-accepted F lents n i 5 1 8 1 (λ k h. suited k) watches
-      (λ k x y z. finds i w F given k (missing k x (omega (arith, y, l)) z)) t brings in
+      (λ k x y z. missing-inside insulation i 0 w (valueOf (given k)) (missing k x (omega (arith, y, l)) z)) t brings in
       record {
         tick = act .wait .tick + terminating insulation 5;
         not-before = omega (arith, act .wait .later);
@@ -119,24 +119,20 @@ module _ (F : Function) (releases : Releases F) (lents : ℕ → Lent) (suited :
 
   -- and from the first missing reading on, in tick r, which is not the first tick, in less than thirty ticks
   pub relay-since : (r : ℕ) → 1 ≤ r → ((k : ℕ) → r ≤ k → k < r + 20 → Missing k) → RelayReleased F lents r (r + 29)
-  relay-since (suc r) l missing = go (last-instant insulation keep F given r)
+  relay-since (suc r) l missing =
+      record {
+        tick = found .tick;
+        not-before = b .next (found .tick) (found .not-before) (found .instant);
+        in-time = omega (arith, found .in-time, b .up-to);
+        instant = found .instant;
+        released = found .released;
+      }
     where
-      go : LastInstant insulation F given r → RelayReleased F lents (suc r) (suc r + 29)
-      go b =
-          let found = relay-released (b .tick) (b .instant) (λ k x y z. after k x y z (decLe k r)) in
-          let later : found .tick ≤ r → ⊥ = λ x. b .none (found .tick) (found .not-before) x (found .instant) in
-          record {
-            tick = found .tick;
-            not-before = omega (arith, later);
-            in-time = omega (arith, found .in-time, b .up-to);
-            instant = found .instant;
-            released = found .released;
-          }
-        where
-          after : (k : ℕ) → b .tick < k → k ≤ b .tick + 20 → InstantAt insulation F given k → Dec (k ≤ r)
-              → valueOf (lents k .readings) 0 ≡ noReading
-          after k x y z (yes q) = absurd (b .none k x q z)
-          after k x y z (no q) = missing k (omega (arith, q)) (omega (arith, y, b .up-to)) z
+      b : LastInstant insulation F given r
+      b = last-instant insulation keep F given r
+
+      found : RelayReleased F lents (suc (b .tick)) (b .tick + 30)
+      found = relay-released (b .tick) (b .instant) (λ k x y z. missing k (b .next k x z) (omega (arith, y, b .up-to)) z)
   relay-since zero l missing = absurd (omega (arith, l))
 
 -- With what the tasks of the monitor compute, and the resistance lost after the instant at tick 80: every tick is right, the relay is held

@@ -1,26 +1,26 @@
 -- How long until the insulation monitor of examples/ enters its alarm mode, where the resistance is missing: twenty ticks, which are met
 -- and cannot be one less; only instants count. Instances of the response time's theorems.
-use Prim.Native.Nat.{_%_, ℕ, zero, suc, _+_, _≤_, _<_}
+use Prim.Native.Nat.{ℕ, zero, suc, _+_, _%_, _≤_, _<_}
 use mathlib.Core.Path.{_≡_, refl, sym, ap, subst, _∙_}
-use mathlib.Core.List.{List, _∷_}
+use mathlib.Core.List.{_∷_}
 use mathlib.Core.Bool.{Bool, true, false, not, _&&_}
 use native.Mathlib.Omega.{arith}
 use lib.IntN.{ℤ, pos}
 use lib.Dec.{eqb, ltb}
 use lib.ListN.{length, replicate}
 use borrow.Author.Tests.{le-ltb}
-use Rattle.theory.proofs.Order.{le-refl}
 use Rattle.theory.specs.Claim.{Says}
 use Rattle.theory.specs.Search.{any}
 use Rattle.theory.proofs.Bools.{says-lt, says-eq, says-not, _and_}
 use Rattle.theory.proofs.Search.{any-says}
 use Rattle.cells.specs.Limits.{maxPorts}
-use Rattle.readings.specs.Reading.{noReading, isMissing}
+use Rattle.readings.specs.Reading.{noReading, isMissing, Inside}
 use Rattle.readings.proofs.Readings.{missing-says}
-use Rattle.program.specs.Tables.{switchTarget}
+use Rattle.program.specs.Tables.{guardPort, guardLow, guardHigh, switchTarget, switchDriver}
 use Rattle.program.specs.Program.{programOf}
 use Rattle.program.specs.Ports.{valueOf}
 use Rattle.rules.specs.Missing.{SwitchOf, LooksAt, ForMissing}
+use Rattle.rules.proofs.Missing.{missing-inside}
 use Rattle.suppliers.proofs.Accepted.{windows-accepted}
 use Rattle.giotto.specs.Instant.{Configuration, Function}
 use Rattle.giotto.specs.Execution.{execution}
@@ -28,13 +28,13 @@ use Rattle.machine.specs.Advance.{Lent}
 use Rattle.demands.specs.Composed.{readings, configurationAt, SuitedAt}
 use Rattle.demands.specs.Kept.{InRound}
 use Rattle.demands.specs.Missing.{TakesSwitch}
-use Rattle.demands.specs.Response.{waiting, waitingFrom, InstantAt, currentAfter, FindsInside, Watches, FindsAfter, Leaves, LeavesWithin}
-use Rattle.demands.specs.Response.{NoTickLess, LongestFromStart, Slowest, MissingAfter}
+use Rattle.demands.specs.Response.{waiting, waitingFrom, InstantAt, currentAfter, Watches, FindsAfter, Leaves, LeavesWithin, NoTickLess}
+use Rattle.demands.specs.Response.{LongestFromStart, Slowest, MissingAfter}
 use Rattle.demands.proofs.Supplied.{worst-case-suited}
 use Rattle.demands.proofs.Response.{response-time, response-exact, waiting-longest, missing-leads-out, missing-since, slowest-some}
 use Rattle.worked.specs.Computed.{computed}
 use Rattle.worked.specs.Systems.{mix}
-use Rattle.worked.specs.Insulation.{insulation, insulation-system, insulationLent, lostFrom, flickers}
+use Rattle.worked.specs.Insulation.{insulation, insulation-system, insulationLent, lostFrom, flickers, sinks}
 use Rattle.worked.proofs.Insulation.{insulation-accepted, resistance, of-normal, of-alarm, lost-whole}
 
 -- how long the switches for the missing reading are waited for, in the normal mode and in the alarm mode
@@ -83,13 +83,8 @@ pub for-missing-there : ForMissing insulation 3 0
 unfolding computed
 for-missing-there = record { looks = record { guard = refl; port = refl }; low = refl; high = refl }
 
-pub finds : (i : ℕ) → ForMissing insulation i 0 → (F : Function) (readings : ℕ → List ℤ) (n : ℕ) → valueOf (readings n) 0 ≡ noReading
-    → FindsInside insulation F readings i n
-finds i w F readings n e =
-    rw (w .low, ap (valueOf (readings n)) (w .looks .port) ∙ e, w .high) (le-refl noReading, le-refl noReading)
-
 found-1 : (b : ℕ) → FindsAfter insulation mix (lostFrom 1) 0 0 b
-found-1 b k l h e = finds 0 for-missing mix (lostFrom 1) k (lost-there 1 k (omega (arith, l)))
+found-1 b k l h e = missing-inside insulation 0 0 for-missing (valueOf (lostFrom 1 k)) (lost-there 1 k (omega (arith, l)))
 
 -- the alarm mode is entered at tick 20, and the normal mode stays up to then: the bound is met
 pub alarm-exact : Leaves insulation-system mix lent-1 0 20 0
@@ -139,7 +134,7 @@ unfolding computed
 none-finds = refl
 
 flickers-found : FindsAfter insulation mix flickers 0 0 20
-flickers-found k l h e = finds 0 for-missing mix flickers k (go (isMissing (valueOf (flickers k) 0)) refl)
+flickers-found k l h e = missing-inside insulation 0 0 for-missing (valueOf (flickers k)) (go (isMissing (valueOf (flickers k) 0)) refl)
   where
     says : (k : ℕ) → Says (finds-some k) (((0 < k) × (flickering k .time ≡ k)) × (valueOf (flickers k) 0 ≡ noReading → ⊥))
     says k = (says-lt 0 k and says-eq (flickering k .time) k) and says-not (missing-says (valueOf (flickers k) 0))
@@ -155,6 +150,33 @@ flickers-within =
     response-time insulation-system insulation-accepted mix (insulationLent mix flickers) 0 0
     (λ k l. worst-case-suited insulation-system (insulation-accepted .windows) mix flickers flickers-whole k)
     (record { instant = refl; of-mode = of-normal; interval = refl; sensor = resistance }) flickers-found
+
+-- A resistance that is too low raises the alarm as fast: 30 is inside the interval up to 49 of switch row 1
+sinks-whole : (n : ℕ) → length (sinks n) ≡ maxPorts
+sinks-whole n = go (ltb n 1)
+  where
+    go : (b : Bool) → length {A = ℤ} (elim b [ true ↦ pos 80 ∷ replicate 63 (pos 0) | false ↦ pos 30 ∷ replicate 63 (pos 0) ]) ≡ maxPorts
+    go true = refl
+    go false = refl
+
+low-there : (n : ℕ) → 1 ≤ n → valueOf (sinks n) 0 ≡ pos 30
+low-there n l = rw (le-ltb n 1 l, sinks)
+
+low-inside : Inside (guardLow insulation (switchDriver insulation 1)) (pos 30) (guardHigh insulation (switchDriver insulation 1))
+unfolding computed
+low-inside = (refl, refl)
+
+low-port : guardPort insulation (switchDriver insulation 1) ≡ 0
+unfolding computed
+low-port = refl
+
+pub low-within : LeavesWithin insulation-system mix (insulationLent mix sinks) 0 (waiting insulation 1) 1
+unfolding computed
+low-within =
+    response-time insulation-system insulation-accepted mix (insulationLent mix sinks) 0 1
+    (λ k l. worst-case-suited insulation-system (insulation-accepted .windows) mix sinks sinks-whole k)
+    (record { instant = refl; of-mode = record { in-table = omega arith; of-mode = refl }; interval = refl; sensor = resistance })
+    (λ k l h e. rw (ap (valueOf (sinks k)) low-port ∙ low-there k l) low-inside)
 
 -- The slowest switch that looks at the resistance, in the normal mode: row 0, and row 1 is as slow; in the alarm mode row 3
 normal-slowest : Slowest insulation 0 0 0

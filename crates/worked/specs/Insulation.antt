@@ -84,6 +84,10 @@ lost = lostFrom 5
 abbrev pub flickers : ℕ → List ℤ
 flickers n = elim (ltb 0 n && eqb (n % 10) 0) [ true ↦ noReading ∷ replicate 63 (pos 0) | false ↦ pos 80 ∷ replicate 63 (pos 0) ]
 
+-- good at tick 0, and 30 kilo-ohms from tick 1 on: inside the interval of switch row 1, and at neither of its ends
+abbrev pub sinks : ℕ → List ℤ
+sinks n = elim (ltb n 1) [ true ↦ pos 80 ∷ replicate 63 (pos 0) | false ↦ pos 30 ∷ replicate 63 (pos 0) ]
+
 -- the signal releases the coil: what task 3 gives for port 8 is 0, whatever it takes
 abbrev pub Releases : Function → Type 0
 Releases F = (values : List ℤ) → F 3 values 8 ≡ pos 0
