@@ -1,29 +1,28 @@
-# Files of the kinds `long` and `soak`, tested to their end: FILE alone prints how many cases it has, FILE N the file with N ticks in each.
+# How many ticks the cases of a file of the kind `long` run in all. The file is tested to its end before anything is timed.
 BEGIN {
     open_file(ARGV[1])
     cases = next_number()
     if (cases < 1) wrong("at least 1 case was expected, not " text)
-    for (i = 0; i < cases; i++) next_case()
+    while (cases-- > 0) ticks += next_case()
     if (next_line()) wrong("the last case ended before this line")
-    if (ARGC == 2) print cases
-    else for (i = 1; i <= numbers; i++) print (i in is_ticks ? ARGV[2] : kept[i])
+    print ticks
     exit
 }
 
 # A case is a program, its code and schedule, a state, how many ticks, and the three slices lent to all of them.
-function next_case() {
+function next_case(    n) {
     skip(1)
     skip_slices(last_table + 2)
     skip(state_size())
-    if (next_number() < 1) wrong("at least 1 tick was expected, not " text)
-    is_ticks[numbers] = 1
+    n = next_number()
+    if (n < 1) wrong("at least 1 tick was expected, not " text)
     skip_slices(3)
+    return n
 }
 
 function next_number() {
     if (!next_line()) wrong_file("ends before its last case does")
     if (text !~ /^-?[0-9]+$/) wrong(shown(text) " is no number")
-    kept[++numbers] = text
     return text + 0
 }
 

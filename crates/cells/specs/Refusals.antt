@@ -79,7 +79,3 @@ state_refused = 21
 -- a mode's switches look at a sensor, and none of them is for its missing reading alone; tested after 10
 abbrev pub gap_refused : ℕ
 gap_refused = 24
-
--- the slice that is lent for an image is shorter than the image; tested last
-abbrev pub image_refused : ℕ
-image_refused = 32

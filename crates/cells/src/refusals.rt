@@ -66,6 +66,3 @@ pub const STATE: usize = 21;
 
 // A mode's switches look at a sensor, and none of them is for its missing reading alone; tested after 10.
 pub const GAP: usize = 24;
-
-// The slice that is lent for an image is shorter than the image; tested last.
-pub const IMAGE: usize = 32;

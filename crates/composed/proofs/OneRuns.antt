@@ -33,27 +33,27 @@ module _ (T : Tables) (W S : List ℤ) (F : Function) (sound : Sound T W S) (k n
   now = k * ticks_of (mode P C.mode) + u.elapsed
 
   -- a supplier that runs, runs in one of its windows
-  inside : (j : ℕ) → j < suppliers → runs_now (block_of S) u j ≡ true → in_window W j C.mode now ≡ true
+  inside : (j : ℕ) → j < suppliers → runs_now S u j ≡ true → in_window W j C.mode now ≡ true
   inside j l r =
       let d = worst_run T W S F j C.mode k u.elapsed in
-      let e = tick-runs (OwnedBy P j) (block_of S j u.current) u.elapsed (place_of (block_of S) u j) d
+      let e = tick-runs (OwnedBy P j) (block_of S j u.current) u.elapsed (place_of S u j) d
       (own-rows T S sound.joined.rows j u.current) (h.ahead j l) r in
       (sound.good j C.mode l h.declared).inside k u.elapsed h.in-round (omega (arith, h.ticks))
       (subst (λ (a : ℕ). runs_in (block_of S j a) u.elapsed d ≡ true) h.current e)
 
-  pub windows-kept : (j : ℕ) → j < suppliers → runs_now (block_of S) u j ≡ true
+  pub windows-kept : (j : ℕ) → j < suppliers → runs_now S u j ≡ true
       → InWindow W j C.mode (k * ticks_of (mode P C.mode) + u.elapsed)
   windows-kept j l r = (in-window-says W j C.mode now).yes (inside j l r)
 
   -- two suppliers that run in one tick are one
-  pub one-runs : (i j : ℕ) → i < suppliers → j < suppliers → runs_now (block_of S) u i ≡ true → runs_now (block_of S) u j ≡ true → i ≡ j
+  pub one-runs : (i j : ℕ) → i < suppliers → j < suppliers → runs_now S u i ≡ true → runs_now S u j ≡ true → i ≡ j
   one-runs i j p q x y =
       windows-one (record { tables = T; windows = W }) sound.windows i j C.mode now (inside i p x) (inside j q y)
 
   -- no several suppliers run in one tick
-  pub not-several : running (block_of S) u ≡ several → ⊥
+  pub not-several : running S u ≡ several → ⊥
   not-several e =
-      let c = (collides (block_of S) u).0 e in
+      let c = (collides S u).0 e in
       omega (
         arith,
         c.apart,

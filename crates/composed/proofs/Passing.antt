@@ -24,7 +24,7 @@ use Rattle.runs.proofs.Tick.{tick-among}
 use Rattle.suppliers.proofs.Dispatched.{own-rows}
 use Rattle.giotto.specs.Instant.{Configuration, Function, results}
 use Rattle.machine.specs.declared.State.{State}
-use Rattle.machine.specs.Schedules.{Blocks, place_of, act_of, moved_of, after_tick}
+use Rattle.machine.specs.Schedules.{place_of, act_of, moved_of, after_tick}
 use Rattle.composed.specs.Sound.{Sound}
 use Rattle.composed.specs.Related.{OwnedBy, tasks_of, worst_run, Going}
 
@@ -38,37 +38,31 @@ module _ (T : Tables) (W S : List ℤ) (F : Function) (sound : Sound T W S) (k n
   abbrev P : Program
   P = program_of T
 
-  -- the blocks of the schedule
-  abbrev B : Blocks
-  B = block_of S
-
   -- after a tick each supplier stays ahead of its worst-case run alone
-  ahead-next : (r : List ℕ) (j : ℕ) → j < suppliers → AtMost (OwnedBy P j) r (left_after (act_of B u j) u.left)
+  ahead-next : (r : List ℕ) (j : ℕ) → j < suppliers → AtMost (OwnedBy P j) r (left_after (act_of S u j) u.left)
       → Dominated (OwnedBy P j) (block_of S j u.current) (u.elapsed + 1)
-      (record { position = get_or (each (moved_of B u) suppliers 0) j 0; left = r }) (worst_run T W S F j C.mode k (u.elapsed + 1))
+      (record { position = get_or (each (moved_of S u) suppliers 0) j 0; left = r }) (worst_run T W S F j C.mode k (u.elapsed + 1))
   ahead-next r j l w =
       let e = u.elapsed in
       let block = block_of S j u.current in
       let d = worst_run T W S F j C.mode k e in
-      let a = tick-among (OwnedBy P j) block e (place_of B u j) d r (own-rows T S sound.joined.rows j u.current) (h.ahead j l) w in
-      let b : Dominated (OwnedBy P j) block (suc e) (record { position = moved_of B u j; left = r })
-      (worst_run T W S F j C.mode k (suc e)) =
-      subst (λ (x : ℕ). Dominated (OwnedBy P j) block (suc e) (record { position = moved_of B u j; left = r }) (tick (block_of S j x) e d))
+      let a = tick-among (OwnedBy P j) block e (place_of S u j) d r (own-rows T S sound.joined.rows j u.current) (h.ahead j l) w in
+      let b : Dominated (OwnedBy P j) block (suc e) (record { position = moved_of S u j; left = r }) (worst_run T W S F j C.mode k (suc e)) =
+      subst (λ (x : ℕ). Dominated (OwnedBy P j) block (suc e) (record { position = moved_of S u j; left = r }) (tick (block_of S j x) e d))
       h.current a in
       let c = subst (λ (x : ℕ). Dominated (OwnedBy P j) block (suc e) (record { position = x; left = r }) (worst_run T W S F j C.mode k (suc e)))
-      (sym (each_at (moved_of B u) suppliers j 0 l)) b in
+      (sym (each_at (moved_of S u) suppliers j 0 l)) b in
       subst (λ (x : ℕ).
-      Dominated (OwnedBy P j) block x (record { position = get_or (each (moved_of B u) suppliers 0) j 0; left = r })
-      (worst_run T W S F j C.mode k x))
+      Dominated (OwnedBy P j) block x (record { position = get_or (each (moved_of S u) suppliers 0) j 0; left = r }) (worst_run T W S F j C.mode k x))
       (sym (add-one e)) c
 
   -- after a tick with these remaining times and local outputs the unit goes on
   pub passing : (r : List ℕ) (o : List ℤ) → length r ≡ max_tasks → length o ≡ max_ports
       → ((t : ℕ) → left_of r t ≤ left_of u.left t)
-      → ((j : ℕ) → j < suppliers → AtMost (OwnedBy P j) r (left_after (act_of B u j) u.left))
+      → ((j : ℕ) → j < suppliers → AtMost (OwnedBy P j) r (left_after (act_of S u j) u.left))
       → ((t p : ℕ) → member t (tasks_of P C.mode) ≡ true → left_of r t ≡ 0 → member p (task P t).gives ≡ true
       → value_of o p ≡ results P F C.ports t p)
-      → Going T W S F k (suc n) C (after_tick B u r o)
+      → Going T W S F k (suc n) C (after_tick S u r o)
   passing r o a b less own holds = record {
     declared = h.declared;
     in-round = h.in-round;

@@ -9,16 +9,15 @@ use Rattle.theory.specs.Rows.{placeless}
 use Rattle.theory.specs.Verdict.{accepted_number}
 use Rattle.program.specs.Tables.{Tables}
 use Rattle.program.specs.Program.{Program, program_of}
-use Rattle.code.specs.Op.{emit}
+use Rattle.code.specs.Op.{emit, instructions}
 use Rattle.code.specs.Compile.{listing_of}
-use Rattle.runs.specs.Schedule.{block_of}
 use Rattle.giotto.specs.Instant.{Configuration, Function}
 use Rattle.giotto.specs.Execution.{pass}
 use Rattle.machine.specs.declared.State.{State}
 use Rattle.machine.specs.declared.Handed.{Handed}
 use Rattle.machine.specs.Instant.{Outcome, ok}
 use Rattle.machine.specs.Schedules.{tick_all}
-use Rattle.machine.specs.Advance.{Lent, system_of, answer, handed, advance_answer}
+use Rattle.machine.specs.Advance.{Lent, answer, handed, advance_answer}
 use Rattle.machine.proofs.Ready.{goes}
 use Rattle.machine.proofs.Answered.{advance-steps}
 use Rattle.composed.specs.Sound.{Sound}
@@ -45,11 +44,10 @@ module _ (T : Tables) (W S : List ℤ) (F : Function) (n : ℕ) (C : Configurati
         b : Readied T W S F n C s X.readings X.times
         b = readied T W S F n C s X.readings X.times h x.times r
 
-        next : (v : State) × (tick_all P (block_of S) X.results b.state ≡ ok v)
-            × Going T W S F b.unit (suc n) (pass P F n X.readings C) v
+        next : (v : State) × (tick_all P S X.results b.state ≡ ok v) × Going T W S F b.unit (suc n) (pass P F n X.readings C) v
         next = tick-related T W S F h b.unit n (pass P F n X.readings C) b.state X.results b.keeps b.more (λ t p. x.results b.state t p b.runs)
 
         answered : advance_answer (by_compiled T S X s) ≡ record { answer = placeless accepted_number; state = next.0 }
         answered =
             sym (advance-steps (by_compiled T S X s) (related-verdict T W S F h n C s X r x.readings-length x.results-length x.times-length))
-            ∙ ap (λ (o : Outcome). handed (answer s o)) (ap (goes (system_of T (emit (listing_of T)) S) X s) b.runs ∙ next.1)
+            ∙ ap (λ (o : Outcome). handed (answer s o)) (ap (goes P (instructions (emit (listing_of T))) S X s) b.runs ∙ next.1)

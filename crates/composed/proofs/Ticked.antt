@@ -26,8 +26,7 @@ use Rattle.giotto.specs.Instant.{Configuration, Function, results}
 use Rattle.giotto.proofs.Due.{tasks-one}
 use Rattle.machine.specs.declared.State.{State}
 use Rattle.machine.specs.Instant.{ok}
-use Rattle.machine.specs.Schedules.{Blocks, Who, nobody, one, several, place_of, act_of, runs_now, running, outputs_after, after_tick, ticked}
-use Rattle.machine.specs.Schedules.{tick_all}
+use Rattle.machine.specs.Schedules.{Who, nobody, one, several, place_of, act_of, running, outputs_after, after_tick, ticked, tick_all, runs_now}
 use Rattle.machine.specs.Moves.{Worked, Works}
 use Rattle.machine.proofs.Collide.{Known, known}
 use Rattle.machine.proofs.Completing.{outputs-length}
@@ -42,25 +41,21 @@ module _ (T : Tables) (W S : List ℤ) (F : Function) (sound : Sound T W S) (k n
   abbrev P : Program
   P = program_of T
 
-  -- the blocks of the schedule
-  abbrev B : Blocks
-  B = block_of S
-
   -- after a tick in which nobody runs the unit goes on
-  nobody-ticked : ((j : ℕ) → j < suppliers → runs_now B u j ≡ false) → Going T W S F k (suc n) C (after_tick B u u.left u.outputs)
+  nobody-ticked : ((j : ℕ) → j < suppliers → runs_now S u j ≡ false) → Going T W S F k (suc n) C (after_tick S u u.left u.outputs)
   nobody-ticked none =
       passing T W S F sound k n C u h more u.left u.outputs h.all_left h.all-outputs (λ t. omega arith)
-      (λ j l t o. let e = ap (λ (r : List ℕ). left_of r t) (rests (act_of B u j) u.left (none j l)) in omega (arith, e))
+      (λ j l t o. let e = ap (λ (r : List ℕ). left_of r t) (rests (act_of S u j) u.left (none j l)) in omega (arith, e))
       h.held
 
   -- a tick in which task t of supplier i runs
-  module _ (t i : ℕ) (l : i < suppliers) (q : act_of B u i ≡ work t) (only : (j : ℕ) → j < suppliers → runs_now B u j ≡ true → j ≡ i)
-      (e : running B u ≡ one t)
+  module _ (t i : ℕ) (l : i < suppliers) (q : act_of S u i ≡ work t) (only : (j : ℕ) → j < suppliers → runs_now S u j ≡ true → j ≡ i)
+      (e : running S u ≡ one t)
       (fits : (p : ℕ) → left_of u.left t ≡ 1 → member p (task P t).gives ≡ true
       → value_of given p ≡ F t (values_of u.ports (task P t).takes) p) where
     -- a task that runs has time left
     busy : 1 ≤ left_of u.left t
-    busy = tick-busy (block_of S i u.current) u.elapsed (place_of B u i) t q
+    busy = tick-busy (block_of S i u.current) u.elapsed (place_of S u i) t q
 
     -- a task that runs is one of the mode's, since no other has time left
     in-mode : member t (tasks_of P C.mode) ≡ true
@@ -71,21 +66,21 @@ module _ (T : Tables) (W S : List ℤ) (F : Function) (sound : Sound T W S) (k n
         go false z = absurd (omega (arith, busy, h.others t z))
 
     -- what a tick in which a task runs does to the state
-    worked : Worked P given t u (after_tick B u (left_after (work t) u.left) (outputs_after P given u t))
+    worked : Worked P given t u (after_tick S u (left_after (work t) u.left) (outputs_after P given u t))
     worked =
-        let v = after_tick B u (left_after (work t) u.left) (outputs_after P given u t) in
-        subst (λ (w : Who). Works P given w u v) e (tick-passes P B given u v (ap (ticked P B given u) e)).works
+        let v = after_tick S u (left_after (work t) u.left) (outputs_after P given u t) in
+        subst (λ (w : Who). Works P given w u v) e (tick-passes P S given u v (ap (ticked P S given u) e)).works
 
     -- no supplier's tasks owe more than after the supplier's own act
-    own : (j : ℕ) → j < suppliers → (x : ℕ) → left_of (left_after (work t) u.left) x ≤ left_of (left_after (act_of B u j) u.left) x
-    own j m x = go (runs_now B u j) refl
+    own : (j : ℕ) → j < suppliers → (x : ℕ) → left_of (left_after (work t) u.left) x ≤ left_of (left_after (act_of S u j) u.left) x
+    own j m x = go (runs_now S u j) refl
       where
-        go : (b : Bool) → runs_now B u j ≡ b → left_of (left_after (work t) u.left) x ≤ left_of (left_after (act_of B u j) u.left) x
+        go : (b : Bool) → runs_now S u j ≡ b → left_of (left_after (work t) u.left) x ≤ left_of (left_after (act_of S u j) u.left) x
         go true z =
-            let a : act_of B u j ≡ work t = ap (act_of B u) (only j m z) ∙ q in
+            let a : act_of S u j ≡ work t = ap (act_of S u) (only j m z) ∙ q in
             let b = ap (λ (a : Act). left_of (left_after a u.left) x) a in omega (arith, b)
         go false z =
-            let b = ap (λ (r : List ℕ). left_of r x) (rests (act_of B u j) u.left z) in omega (arith, b, after_less (work t) u.left x)
+            let b = ap (λ (r : List ℕ). left_of r x) (rests (act_of S u j) u.left z) in omega (arith, b, after_less (work t) u.left x)
 
     -- a task that completes has its results in its local outputs
     completed : (p : ℕ) → left_of (left_after (work t) u.left) t ≡ 0 → member p (task P t).gives ≡ true
@@ -110,7 +105,7 @@ module _ (T : Tables) (W S : List ℤ) (F : Function) (sound : Sound T W S) (k n
             ∙ h.held x p w (sym (worked.others x d) ∙ z) m
 
     -- after a tick in which one task runs the unit goes on
-    one-ticked : Going T W S F k (suc n) C (after_tick B u (left_after (work t) u.left) (outputs_after P given u t))
+    one-ticked : Going T W S F k (suc n) C (after_tick S u (left_after (work t) u.left) (outputs_after P given u t))
     one-ticked =
         passing T W S F sound k n C u h more (left_after (work t) u.left) (outputs_after P given u t)
         (length-set u.left t _ ∙ h.all_left) (outputs-length P given u t ∙ h.all-outputs) (after_less (work t) u.left)
@@ -119,16 +114,16 @@ module _ (T : Tables) (W S : List ℤ) (F : Function) (sound : Sound T W S) (k n
 -- a tick of the schedules is not refused, and the unit goes on after it
 pub tick-related : (T : Tables) (W S : List ℤ) (F : Function) → Sound T W S → (k n : ℕ) (C : Configuration) (u : State) (given : List ℤ)
     → Going T W S F k n C u → 1 ≤ u.remaining
-    → ((t p : ℕ) → running (block_of S) u ≡ one t → left_of u.left t ≡ 1 → member p (task (program_of T) t).gives ≡ true
+    → ((t p : ℕ) → running S u ≡ one t → left_of u.left t ≡ 1 → member p (task (program_of T) t).gives ≡ true
     → value_of given p ≡ F t (values_of u.ports (task (program_of T) t).takes) p)
-    → (v : State) × (tick_all (program_of T) (block_of S) given u ≡ ok v) × Going T W S F k (suc n) C v
-tick-related T W S F sound k n C u given h more fits = go (running (block_of S) u) refl (known (act_of (block_of S) u) suppliers)
+    → (v : State) × (tick_all (program_of T) S given u ≡ ok v) × Going T W S F k (suc n) C v
+tick-related T W S F sound k n C u given h more fits = go (running S u) refl (known (act_of S u) suppliers)
   where
-    go : (w : Who) → running (block_of S) u ≡ w → Known (act_of (block_of S) u) suppliers w
-        → (v : State) × (ticked (program_of T) (block_of S) given u w ≡ ok v) × Going T W S F k (suc n) C v
-    go nobody e none = (after_tick (block_of S) u u.left u.outputs, refl, nobody-ticked T W S F sound k n C u given h more none)
+    go : (w : Who) → running S u ≡ w → Known (act_of S u) suppliers w
+        → (v : State) × (ticked (program_of T) S given u w ≡ ok v) × Going T W S F k (suc n) C v
+    go nobody e none = (after_tick S u u.left u.outputs, refl, nobody-ticked T W S F sound k n C u given h more none)
     go (one t) e (i, l, q, only) = (
-      after_tick (block_of S) u (left_after (work t) u.left) (outputs_after (program_of T) given u t),
+      after_tick S u (left_after (work t) u.left) (outputs_after (program_of T) given u t),
       refl,
       one-ticked T W S F sound k n C u given h more t i l q only e (λ p. fits t p e),
     )

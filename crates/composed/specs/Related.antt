@@ -66,7 +66,7 @@ module _ (T : Tables) (W S : List ℤ) (F : Function) where
     -- no task has more time left than its worst case; each supplier is ahead of its worst-case run alone
     pub most : (t : ℕ) → left_of s.left t ≤ (task P t).worst
     pub ahead : (j : ℕ) → j < suppliers
-        → Dominated (OwnedBy P j) (block_of S j s.current) s.elapsed (place_of (block_of S) s j) (worst_run j C.mode k s.elapsed)
+        → Dominated (OwnedBy P j) (block_of S j s.current) s.elapsed (place_of S s j) (worst_run j C.mode k s.elapsed)
 
   -- before tick n the configuration C and the state s go together: nothing has happened yet, or a unit goes on
   abbrev pub Related : ℕ → Configuration → State → Type 0

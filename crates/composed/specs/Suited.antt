@@ -11,7 +11,6 @@ use Rattle.rules.specs.Fields.{InRange}
 use Rattle.code.specs.Op.{emit, instructions}
 use Rattle.code.specs.Compile.{listing_of}
 use Rattle.runs.specs.Tick.{left_of}
-use Rattle.runs.specs.Schedule.{block_of}
 use Rattle.giotto.specs.Instant.{Configuration, Function}
 use Rattle.giotto.specs.Execution.{released_by}
 use Rattle.machine.specs.Instant.{ok}
@@ -35,7 +34,7 @@ pub record Suited (T : Tables) (code : List ℕ) (S : List ℤ) (F : Function) (
   -- private ports
   pub results : (u : State) (t p : ℕ)
       → ready (program_of T) (instructions code) X.readings X.times s ≡ ok u
-      → running (block_of S) u ≡ one t
+      → running S u ≡ one t
       → left_of u.left t ≡ 1
       → member p (task (program_of T) t).gives ≡ true
       → value_of X.results p ≡ F t (values_of u.ports (task (program_of T) t).takes) p

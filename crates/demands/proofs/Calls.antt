@@ -49,7 +49,7 @@ long-meets : (T : Tables) → TestMeets long_refusal long_rule T
 long-meets T = record { number = refl; bars = long-bars T; rows = tt }
 
 -- the tests of a call that is lent tables and more bar its rules where its own do
-pub lent_barred : {A : Type 0} (tables : A → Tables) (shape : A → Bool) (own : List (Refusal A)) (Shape : A → Type 0) (rules : List (Rule A)) (a : A)
+lent_barred : {A : Type 0} (tables : A → Tables) (shape : A → Bool) (own : List (Refusal A)) (Shape : A → Type 0) (rules : List (Rule A)) (a : A)
     → Bars (shape a) (Shape a) → (Shape a → Shaped (tables a)) → Barred own rules a
     → Barred (call_refusals tables shape own) (call_rules tables Shape rules) a
 lent_barred tables shape own Shape rules a s t w = (

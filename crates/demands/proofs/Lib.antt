@@ -20,4 +20,3 @@ pub mod Waiting
 pub mod Response
 pub mod Actuated
 pub mod Private
-pub mod Prepared

@@ -165,7 +165,7 @@ missing-leads-out Y a F lents n p s f e h w g = go (gap (mode_at n) p s h w.of-m
 -- and so from the first missing reading on: what counts is the last instant before it
 pub missing-since : MissingSince
 missing-since Y a F lents (suc r) p s l f h w g =
-    go (missing-leads-out Y a F lents n p s (λ k x. f k (omega (arith, x, b.up-to))) b.instant h looked lost)
+    go (missing-leads-out Y a F lents n p s (λ k x. f k (omega (arith, x, b.up_to))) b.instant h looked lost)
   where
     T : Tables
     T = Y.tables
@@ -180,13 +180,13 @@ missing-since Y a F lents (suc r) p s l f h w g =
     looked = subst (λ (C : Configuration). Slowest T C.mode p s) b.same w
 
     lost : MissingAfter T F (readings Y F lents) p n (waiting T s)
-    lost k x y z = g k (b.next k x z) (omega (arith, y, b.up-to)) z
+    lost k x y z = g k (b.next k x z) (omega (arith, y, b.up_to)) z
 
     go : (i : ℕ) × ForMissing T i p × LeavesWithin Y F lents n (waiting T s) i
         → (i : ℕ) × ForMissing T i p × ((k : ℕ) × ((suc r ≤ k) × (k < suc r + waiting T s)) × TakesSwitch Y F lents k i)
     go (i, q, v) =
         let not-before = b.next v.tick v.later v.leaves.instant in
-        (i, q, (v.tick, (not-before, omega (arith, v.in-time, b.up-to)), v.leaves.takes))
+        (i, q, (v.tick, (not-before, omega (arith, v.in-time, b.up_to)), v.leaves.takes))
 missing-since Y a F lents zero p s l f h w g = absurd (omega (arith, l))
 
 -- the test that a switch row is one of a mode and looks at a port

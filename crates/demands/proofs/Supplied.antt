@@ -24,7 +24,6 @@ use Rattle.rules.specs.Verdict.{program_verdict}
 use Rattle.rules.proofs.Shape.{ports-few, tasks-few}
 use Rattle.rules.proofs.Accepted.{accepted-shaped, accepted-fields}
 use Rattle.code.specs.Op.{instructions}
-use Rattle.runs.specs.Schedule.{block_of}
 use Rattle.suppliers.specs.Windows.{windows_verdict}
 use Rattle.suppliers.proofs.Accepted.{windows-accepted}
 use Rattle.giotto.specs.Instant.{Function, results}
@@ -51,7 +50,7 @@ module _ (Y : System) (F : Function) (readings times : ℕ → List ℤ) where
 
   -- there is a result for every port
   given-length : (o : Outcome) → length (given_in Y F readings times o) ≡ max_ports
-  given-length (ok u) = go (running (block_of (joined Y)) u)
+  given-length (ok u) = go (running (joined Y) u)
     where
       go : (w : Who) → length (given_by P F u w) ≡ max_ports
       go nobody = refl
@@ -60,8 +59,8 @@ module _ (Y : System) (F : Function) (readings times : ℕ → List ℤ) where
   given-length (stop n) = refl
 
   -- for a port that the task gives which runs, the result is that of the task function
-  given-right : (u : State) (t p : ℕ) → p < max_ports → running (block_of (joined Y)) u ≡ one t → member p (task P t).gives ≡ true
-      → value_of (given_by P F u (running (block_of (joined Y)) u)) p ≡ results P F u.ports t p
+  given-right : (u : State) (t p : ℕ) → p < max_ports → running (joined Y) u ≡ one t → member p (task P t).gives ≡ true
+      → value_of (given_by P F u (running (joined Y) u)) p ≡ results P F u.ports t p
   given-right u t p l e m =
       ap (λ (w : Who). value_of (given_by P F u w) p) e
       ∙ assigned-at (results P F u.ports t) (task P t).gives (replicate max_ports (pos 0)) p l m

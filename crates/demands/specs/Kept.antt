@@ -5,7 +5,6 @@ use Rattle.cells.specs.Limits.{suppliers}
 use Rattle.program.specs.Program.{Program, program_of, mode, ticks_of, next_unit}
 use Rattle.code.specs.Op.{instructions}
 use Rattle.runs.specs.Windows.{InWindow}
-use Rattle.runs.specs.Schedule.{block_of}
 use Rattle.giotto.specs.Instant.{Configuration, Function}
 use Rattle.machine.specs.Instant.{Outcome, ok}
 use Rattle.machine.specs.Schedules.{runs_now}
@@ -43,4 +42,4 @@ WindowsKept =
     (Y : System) → Accepted Y → (F : Function) (lents : ℕ → Lent) (n : ℕ) → ((k : ℕ) → k ≤ n → SuitedAt Y F lents k)
     → ((u : State) × (ready_at Y lents n ≡ ok u))
     × ((u : State) → ready_at Y lents n ≡ ok u
-    → (s : ℕ) → s < suppliers → runs_now (block_of (joined Y)) u s ≡ true → TickInWindow Y F lents n s)
+    → (s : ℕ) → s < suppliers → runs_now (joined Y) u s ≡ true → TickInWindow Y F lents n s)

@@ -18,4 +18,3 @@ pub mod Missing
 pub mod Response
 pub mod Actuated
 pub mod Private
-pub mod Prepared

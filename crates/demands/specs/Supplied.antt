@@ -8,7 +8,6 @@ use Rattle.program.specs.Program.{Program, program_of, task}
 use Rattle.program.specs.Ports.{assigned}
 use Rattle.rules.specs.Fields.{InRange}
 use Rattle.code.specs.Op.{instructions}
-use Rattle.runs.specs.Schedule.{block_of}
 use Rattle.giotto.specs.Instant.{Function, results}
 use Rattle.giotto.specs.Execution.{released_at}
 use Rattle.machine.specs.Instant.{Outcome, ok, stop}
@@ -25,7 +24,7 @@ given_by P F u several = replicate max_ports (pos 0)
 
 module _ (Y : System) (F : Function) (readings times : ℕ → List ℤ) where
   abbrev pub given_in : Outcome → List ℤ
-  given_in (ok u) = given_by (program_of Y.tables) F u (running (block_of (joined Y)) u)
+  given_in (ok u) = given_by (program_of Y.tables) F u (running (joined Y) u)
   given_in (stop n) = replicate max_ports (pos 0)
 
   -- what is lent to tick n in state s

@@ -46,7 +46,7 @@ module _ (T : Tables) (F : Function) (readings : ℕ → List ℤ) where
   -- the last instant up to tick r: nothing changes after it up to there
   pub record LastInstant (r : ℕ) : Type 0 where
     pub tick : ℕ
-    pub up-to : tick ≤ r
+    pub up_to : tick ≤ r
     pub instant : (execution (program_of T) F readings tick).time ≡ tick
     pub same : execution (program_of T) F readings (suc r) ≡ execution (program_of T) F readings (suc tick)
     pub next : (k : ℕ) → tick < k → (execution (program_of T) F readings k).time ≡ k → r < k
@@ -94,7 +94,7 @@ module _ (T : Tables) (K : Keep program_rules T) (F : Function) (readings : ℕ 
 
   -- an instant is the last one up to itself
   at_once : (r : ℕ) → (at r).time ≡ r → LastInstant T F readings r
-  at_once r e = record { tick = r; up-to = omega arith; instant = e; same = refl; next = λ k x z. x }
+  at_once r e = record { tick = r; up_to = omega arith; instant = e; same = refl; next = λ k x z. x }
 
   -- some tick is the last instant up to tick r
   pub last-instant : (r : ℕ) → LastInstant T F readings r
@@ -106,7 +106,7 @@ module _ (T : Tables) (K : Keep program_rules T) (F : Function) (readings : ℕ 
       go (no o) b =
           record {
             tick = b.tick;
-            up-to = omega (arith, b.up-to);
+            up_to = omega (arith, b.up_to);
             instant = b.instant;
             same = execution-waits T K F readings (suc r) o ∙ b.same;
             next = λ k x z. omega (arith, b.next k x z, not-here k z);

@@ -1,31 +1,32 @@
 -- What a call comes to, by its tests: it names nothing (19), its task is still running (17), or it is done; of each of the three
--- kinds of call.
+-- kinds of call. Assumes of what a call names that there are no more ports, tasks and drivers than the limits.
 use Prim.Native.Nat.{ℕ, ◌+◌, ◌-◌, ◌≤◌, ◌<◌}
 use mathlib.Core.Path.{◌≡◌, refl, sym, subst, ap, ◌∙◌}
-use mathlib.Core.Bool.{Bool, true, false, not, ◌&&◌}
+use mathlib.Core.Bool.{Bool, true, false, not}
 use mathlib.Core.List.{List}
 use native.Mathlib.Omega.{arith}
 use lib.Dec.{ltb}
 use lib.IntN.{ℤ}
 use lib.ListN.{set}
-use borrow.Author.Tests.{not-false, le-leb, lt-leb}
+use borrow.Author.Tests.{le-leb, lt-leb}
 use Rattle.theory.specs.Lists.{puts}
 use Rattle.theory.specs.Verdict.{accepted_number}
-use Rattle.cells.specs.Cell.{name_of}
-use Rattle.cells.specs.Limits.{max_ports, first_output_call, first_sensor_call}
+use Rattle.cells.specs.Cell.{name_of, rows_in}
+use Rattle.cells.specs.Limits.{max_ports, max_tasks, max_drivers, first_output_call, first_sensor_call}
 use Rattle.cells.specs.Refusals.{overrun_refused, faulty_refused}
-use Rattle.program.specs.Program.{Task, Driver, Program}
+use Rattle.program.specs.Tables.{Tables, port_width, port_count, sensor, task_width, task_count, driver_width, driver_count}
+use Rattle.program.specs.Sets.{is_kind, may_give}
+use Rattle.program.specs.Program.{Task, Driver, Program, driver_row, ports_of, program_of}
 use Rattle.program.specs.Ports.{value_of, assigned, drive}
+use Rattle.program.proofs.Decoded.{task-row, driver-row}
 use Rattle.runs.specs.Tick.{left_of}
 use Rattle.machine.specs.declared.State.{State}
 use Rattle.machine.specs.declared.Advanced.{Advanced}
 use Rattle.machine.specs.Change.{with_ports}
 use Rattle.machine.specs.Instruction.{Call, driver_call, output_call, sensor_call, call_of, names_nothing, still_called, called}
 use Rattle.machine.proofs.Instructions.{driver-range, output-range, sensor-range}
-use Rattle.image.specs.Parts.{task_total, driver_total, marked, gives_in, driver_in, program_in}
-use Rattle.image.proofs.Declared.{task-at, driver-at}
 use Rattle.instants.specs.Step.{call_answer}
-use Rattle.instants.proofs.Declared.{task-named, task-past, driver-named, driver-past, sensor-named, sensor-is}
+use Rattle.instants.proofs.Declared.{row_named, task-past, driver-past, sensor-named, sensor-is}
 
 -- a call number in the range of drivers names that driver
 pub driver-numbered : (n : ℕ) → n < first_output_call → driver_call n ≡ call_of n
@@ -73,68 +74,71 @@ module _ (P : Program) (readings times : List ℤ) (s : State) (c : Call) where
       → record { number = accepted_number; state = called P readings times s c } ≡ call_answer P readings times s c
   call-done e f = (λ i. answered (sym e i) (sym f i)) ∙ answered-call
 
-module _ (Q : List ℕ) (readings times : List ℤ) (s : State) where
-  -- what a call that is done hands on, with these port values
-  abbrev done : List ℤ → Advanced
-  done v = record { number = accepted_number; state = with_ports s v }
-
+module _ (T : Tables) (readings times : List ℤ) (s : State) where
   -- the driver of number d, its name, and whether it is declared
-  module _ (d name : ℕ) (b : Bool) (n : name ≡ name_of d) (is_b : b ≡ ltb name (driver_total Q)) where
+  module _ {drivers : List ℤ} (d name : ℕ) (b : Bool) (e : T.drivers ≡ drivers) (few : rows_in driver_width drivers ≤ max_drivers)
+      (n : name ≡ name_of d) (is_b : b ≡ ltb name (rows_in driver_width drivers)) where
     -- a driver that is not declared is refused with 19
-    pub driver-nothing : not b ≡ true
-        → record { number = faulty_refused; state = s } ≡ call_answer (program_in Q) readings times s (driver_call d)
-    driver-nothing h = call-nothing (program_in Q) readings times s (driver_call d) (driver-past Q d name b n is_b ∙ h)
+    pub driver-nothing : not b ≡ true → record { number = faulty_refused; state = s } ≡ call_answer (program_of T) readings times s (driver_call d)
+    driver-nothing h = call-nothing (program_of T) readings times s (driver_call d) (driver-past T d name b e few n is_b ∙ h)
 
-    -- a declared driver moves what the words say
-    pub driver-done : (v : List ℤ) → not b ≡ false → v ≡ drive (driver_in Q name) s.ports
-        → done v ≡ call_answer (program_in Q) readings times s (driver_call d)
+    -- a declared driver moves what its row says
+    pub driver-done : (v : List ℤ) → not b ≡ false → v ≡ drive (driver_row T name) s.ports
+        → record { number = accepted_number; state = with_ports s v } ≡ call_answer (program_of T) readings times s (driver_call d)
     driver-done v h o =
-        let (l, named) = driver-named Q d name b n is_b h in
-        ap done
-        (o ∙ ap (λ (k : ℕ). drive (driver_in Q k) s.ports) named ∙ ap (λ (D : Driver). drive D s.ports) (sym (driver-at Q d l)))
-        ∙ call-done (program_in Q) readings times s (driver_call d) (driver-past Q d name b n is_b ∙ h) refl
+        let (l, named) = row_named (rows_in driver_width drivers) d name (omega arith) n b is_b h in
+        let declared : d < driver_count T = subst (λ (t : List ℤ). d < rows_in driver_width t) (sym e) l in
+        ap (λ (w : List ℤ). record { number = accepted_number; state = with_ports s w })
+        (o ∙ ap (λ (k : ℕ). drive (driver_row T k) s.ports) named ∙ ap (λ (D : Driver). drive D s.ports) (sym (driver-row T d declared)))
+        ∙ call-done (program_of T) readings times s (driver_call d) (driver-past T d name b e few n is_b ∙ h) refl
 
   -- the task of number t, its name, and whether it is declared
-  module _ (t name : ℕ) (b : Bool) (n : name ≡ name_of t) (is_b : b ≡ ltb name (task_total Q)) where
+  module _ {tasks : List ℤ} (t name : ℕ) (b : Bool) (e : T.tasks ≡ tasks) (few : rows_in task_width tasks ≤ max_tasks)
+      (n : name ≡ name_of t) (is_b : b ≡ ltb name (rows_in task_width tasks)) where
     -- a task that is not declared is refused with 19
-    pub output-nothing : not b ≡ true
-        → record { number = faulty_refused; state = s } ≡ call_answer (program_in Q) readings times s (output_call t)
-    output-nothing h = call-nothing (program_in Q) readings times s (output_call t) (task-past Q t name b n is_b ∙ h)
+    pub output-nothing : not b ≡ true → record { number = faulty_refused; state = s } ≡ call_answer (program_of T) readings times s (output_call t)
+    output-nothing h = call-nothing (program_of T) readings times s (output_call t) (task-past T t name b e few n is_b ∙ h)
 
-    module _ (d : not b ≡ false) (rest : ℕ) (r : rest ≡ left_of s.left name) where
-      -- what is left of the task's run, by its number
-      own-rest : rest ≡ left_of s.left t
-      own-rest = r ∙ ap (left_of s.left) (task-named Q t name b n is_b d).1
+    -- a declared task has its number as name
+    named-task : not b ≡ false → (t < rows_in task_width tasks) × (name ≡ t)
+    named-task = row_named (rows_in task_width tasks) t name (omega arith) n b is_b
 
-      -- a task that is still running is refused with 17
-      pub output-running : 0 < rest
-          → record { number = overrun_refused; state = s } ≡ call_answer (program_in Q) readings times s (output_call t)
-      output-running h =
-          call-running (program_in Q) readings times s (output_call t) (task-past Q t name b n is_b ∙ d)
-          (le-leb 1 _ (subst (λ (k : ℕ). 1 ≤ k) own-rest h))
+    -- a task that is still running is refused with 17
+    pub output-running : not b ≡ false → (rest : ℕ) → rest ≡ left_of s.left name → 0 < rest
+        → record { number = overrun_refused; state = s } ≡ call_answer (program_of T) readings times s (output_call t)
+    output-running d rest r h =
+        call-running (program_of T) readings times s (output_call t) (task-past T t name b e few n is_b ∙ d)
+        (le-leb 1 _ (subst (λ (k : ℕ). 1 ≤ k) (r ∙ ap (left_of s.left) (named-task d).1) h))
 
-      -- what a task that has ended gives is taken from the local outputs
-      pub output-done : (v : List ℤ) → rest ≤ 0
-          → v ≡ puts (assigned (value_of s.outputs) (gives_in Q name)) s.ports
-          → done v ≡ call_answer (program_in Q) readings times s (output_call t)
-      output-done v h o =
-          let (l, named) = task-named Q t name b n is_b d in
-          ap done
-          (o ∙ ap (λ (k : ℕ). puts (assigned (value_of s.outputs) (gives_in Q k)) s.ports) named
-          ∙ ap (λ (K : Task). puts (assigned (value_of s.outputs) K.gives) s.ports) (sym (task-at Q t l)))
-          ∙ call-done (program_in Q) readings times s (output_call t) (task-past Q t name b n is_b ∙ d)
-          (lt-leb 1 _ (subst (λ (k : ℕ). k < 1) own-rest (omega arith)))
+    -- what a task that has ended gives is taken from beside the local outputs
+    pub output-done : not b ≡ false → (rest : ℕ) (v : List ℤ) → rest ≡ left_of s.left name → rest ≤ 0
+        → v ≡ puts (assigned (value_of s.outputs) (ports_of T (may_give T) name)) s.ports
+        → record { number = accepted_number; state = with_ports s v } ≡ call_answer (program_of T) readings times s (output_call t)
+    output-done d rest v r h o =
+        let (l, named) = named-task d in
+        let declared : t < task_count T = subst (λ (t' : List ℤ). t < rows_in task_width t') (sym e) l in
+        ap (λ (w : List ℤ). record { number = accepted_number; state = with_ports s w })
+        (o ∙ ap (λ (k : ℕ). puts (assigned (value_of s.outputs) (ports_of T (may_give T) k)) s.ports) named
+        ∙ ap (λ (K : Task). puts (assigned (value_of s.outputs) K.gives) s.ports) (sym (task-row T t declared)))
+        ∙ call-done (program_of T) readings times s (output_call t) (task-past T t name b e few n is_b ∙ d)
+        (lt-leb 1 _ (subst (λ (k : ℕ). k < 1) (r ∙ ap (left_of s.left) named) (omega arith)))
 
-  -- the port of number p, its name, and whether it is a sensor
-  module _ (p name : ℕ) (b : Bool) (n : name ≡ name_of p) (is_b : b ≡ (ltb name max_ports && marked Q name)) where
+  module _ {ports : List ℤ} (p name : ℕ) (e : T.ports ≡ ports) (few : rows_in port_width ports ≤ max_ports) (n : name ≡ name_of p) where
+    -- the tables have no more ports than the limit
+    few-ports : port_count T ≤ max_ports
+    few-ports = subst (λ (t : List ℤ). rows_in port_width t ≤ max_ports) (sym e) few
+
     -- the reading of a port that is no sensor is refused with 19
-    pub sensor-nothing : not b ≡ true
-        → record { number = faulty_refused; state = s } ≡ call_answer (program_in Q) readings times s (sensor_call p)
-    sensor-nothing h = call-nothing (program_in Q) readings times s (sensor_call p) (ap not (sensor-is Q p name b n is_b) ∙ h)
+    pub sensor-nothing : is_kind T sensor name ≡ false → record { number = faulty_refused; state = s } ≡ call_answer (program_of T) readings times s (sensor_call p)
+    sensor-nothing h =
+        call-nothing (program_of T) readings times s (sensor_call p)
+        (ap not (sym (ap (is_kind T sensor) n ∙ sensor-is T few-ports p) ∙ h))
 
     -- a sensor takes its reading
-    pub sensor-done : (v : List ℤ) → not b ≡ false → v ≡ set s.ports name (value_of readings name)
-        → done v ≡ call_answer (program_in Q) readings times s (sensor_call p)
+    pub sensor-done : (v : List ℤ) → is_kind T sensor name ≡ true → v ≡ set s.ports name (value_of readings name)
+        → record { number = accepted_number; state = with_ports s v } ≡ call_answer (program_of T) readings times s (sensor_call p)
     sensor-done v h o =
-        ap done (o ∙ ap (λ (k : ℕ). set s.ports k (value_of readings k)) (sensor-named Q p name b n is_b (not-false b h)))
-        ∙ call-done (program_in Q) readings times s (sensor_call p) (ap not (sensor-is Q p name b n is_b) ∙ h) refl
+        let named : name ≡ p = n ∙ sensor-named T few-ports p (sym (ap (is_kind T sensor) n) ∙ h) in
+        ap (λ (w : List ℤ). record { number = accepted_number; state = with_ports s w })
+        (o ∙ ap (λ (k : ℕ). set s.ports k (value_of readings k)) named)
+        ∙ call-done (program_of T) readings times s (sensor_call p) (ap not (sym (ap (is_kind T sensor) n ∙ sensor-is T few-ports p) ∙ h)) refl

@@ -12,7 +12,8 @@ use Rattle.program.specs.Program.{Program}
 use Rattle.code.specs.Op.{Op, faulty, call_number, schedule_number, if_number, jump_number, future_number, return_number, decode, instructions}
 use Rattle.code.proofs.Fetch.{instructions-length, instruction-read, decode-unknown}
 use Rattle.machine.specs.declared.At.{At}
-use Rattle.instants.specs.Step.{Came, stepped, step_at}
+use Rattle.instants.specs.declared.instructions.Stepped.{Stepped}
+use Rattle.instants.specs.Step.{stepped, step_at}
 use Rattle.instants.proofs.Steps.{refused_with, step-faulty}
 
 module _ (P : Program) (readings times : List ℤ) (code : List ℕ) (a : At) where
@@ -27,12 +28,11 @@ module _ (P : Program) (readings times : List ℤ) (code : List ℕ) (a : At) wh
       (w : number ≡ word_at code (a.address * words_each)) (x : first ≡ word_at code (a.address * words_each + 1))
       (y : second ≡ word_at code (a.address * words_each + 2)) where
     -- the instruction that the three words say is executed
-    pub fetched : (r : Came) (n : ℕ) → number ≡ n → r ≡ stepped P readings times (length code / words_each) (decode n first second) a
+    pub fetched : (r : Stepped) (n : ℕ) → number ≡ n → r ≡ stepped P readings times (length code / words_each) (decode n first second) a
         → r ≡ step_at P readings times (instructions code) a
     fetched r n e s =
         s ∙ ap (λ (k : ℕ). stepped P readings times k (decode n first second) a) (sym (instructions-length code))
-        ∙ ap (λ (o : Op). stepped P readings times (length (instructions code)) o a)
-        (instruction-read code a.address n first second l (sym e ∙ w) x y)
+        ∙ ap (λ (o : Op). stepped P readings times (length (instructions code)) o a) (instruction-read code a.address n first second l (sym e ∙ w) x y)
 
     -- an instruction that has none of the six numbers is refused with 19
     pub fetched-unknown : (number ≡ call_number → ⊥) → (number ≡ schedule_number → ⊥) → (number ≡ if_number → ⊥) → (number ≡ jump_number → ⊥)

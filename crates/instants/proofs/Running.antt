@@ -16,25 +16,22 @@ use Rattle.program.specs.Program.{Program}
 use Rattle.code.specs.Op.{Op, call, schedule, branch, jump, future, return, faulty, instructions}
 use Rattle.code.proofs.Fetch.{instructions-length}
 use Rattle.machine.specs.declared.State.{State}
+use Rattle.machine.specs.declared.Advanced.{Advanced}
 use Rattle.machine.specs.declared.At.{At}
 use Rattle.machine.specs.Instruction.{executes}
-use Rattle.machine.specs.Instant.{Outcome, ok, stop, is_return, ran_out, fetch, refusal_at, run_from, start_at, run_instant}
-use Rattle.machine.specs.Held.{outcome_in}
+use Rattle.machine.specs.Instant.{ok, stop, is_return, ran_out, fetch, refusal_at, run_from, start_at, run_instant}
+use Rattle.machine.specs.Advance.{answer}
 use Rattle.machine.proofs.Instants.{passes, at_return, at-refusal}
-use Rattle.instants.specs.Step.{Came, stepped, step_at}
+use Rattle.instants.specs.declared.instructions.Stepped.{Stepped}
+use Rattle.instants.specs.Step.{stepped, step_at}
 
 -- after as many instructions as the code has, an address inside the code is refused with 20
-pub spent-inside : (n address : ℕ) (s : State) → address < n → outcome_in count_refused s ≡ ran_out n address
+pub spent-inside : (n address : ℕ) (s : State) → address < n → record { number = count_refused; state = s } ≡ answer s (ran_out n address)
 spent-inside n address s l = rw (lt-ltb address n l, ran_out)
 
 -- after as many instructions as the code has, an address past the end is refused with 19
-pub spent-outside : (n address : ℕ) (s : State) → n ≤ address → outcome_in faulty_refused s ≡ ran_out n address
+pub spent-outside : (n address : ℕ) (s : State) → n ≤ address → record { number = faulty_refused; state = s } ≡ answer s (ran_out n address)
 spent-outside n address s l = rw (le-ltb address n l, ran_out)
-
--- a number that is not 0 stops, whatever became of the state
-stopped : (n : ℕ) (s : State) → accepted_number < n → outcome_in n s ≡ stop n
-stopped zero s l = absurd (omega arith)
-stopped (suc n) s l = refl
 
 module _ (P : Program) (readings times : List ℤ) where
   -- a `return` leaves the machine as it is
@@ -47,22 +44,18 @@ module _ (P : Program) (readings times : List ℤ) where
   return-stays return a e = refl
   return-stays faulty a e = clash {b = false} e refl
 
-  module _ (code : List Op) (a : At) (r : Came) (e : r ≡ step_at P readings times code a) where
+  module _ (code : List Op) (a : At) (r : Stepped) (e : r ≡ step_at P readings times code a) where
     -- what the instruction comes to, by its refusal
-    abbrev step_by : ℕ → Came
+    abbrev step_by : ℕ → Stepped
     step_by v = elim v [
-      | zero ↦ record {
-        number = accepted_number;
-        over = is_return (fetch P readings times code a);
-        at = executes P readings times (fetch P readings times code a) a;
-      }
+      | zero ↦ record { number = accepted_number; over = is_return (fetch P readings times code a); at = executes P readings times (fetch P readings times code a) a }
       | suc m ↦ record { number = suc m; over = false; at = a }
     ]
 
     -- the number that an instruction comes to is its refusal's
     refusal : refusal_at P readings times code a ≡ r.number
     unfolding stepped
-    refusal = go (refusal_at P readings times code a) ∙ sym (ap (λ (q : Came). q.number) e)
+    refusal = go (refusal_at P readings times code a) ∙ sym (ap (λ (q : Stepped). q.number) e)
       where
         go : (v : ℕ) → v ≡ (step_by v).number
         go zero = refl
@@ -81,18 +74,17 @@ module _ (P : Program) (readings times : List ℤ) where
       -- an instruction that is refused refuses the instant
       pub run-refused : accepted_number < r.number → run_from P readings times code more a ≡ stop r.number
       run-refused h =
-          ap (λ (k : ℕ). run_from P readings times code k a) own
-          ∙ at-refusal P readings times code (more - 1) a r.number (omega arith) refusal
+          ap (λ (k : ℕ). run_from P readings times code k a) own ∙ at-refusal P readings times code (more - 1) a r.number (omega arith) refusal
 
       -- a `return` that is not refused ends the instant
       pub run-over : r.number ≤ accepted_number → r.over ≡ true → run_from P readings times code more a ≡ ok r.at.state
       run-over h y =
           let x = executed h in
           let z : refusal_at P readings times code a ≡ accepted_number = omega (arith, refusal) in
-          let returns : is_return (fetch P readings times code a) ≡ true = sym (ap (λ (q : Came). q.over) x) ∙ y in
+          let returns : is_return (fetch P readings times code a) ≡ true = sym (ap (λ (q : Stepped). q.over) x) ∙ y in
           ap (λ (k : ℕ). run_from P readings times code k a) own
           ∙ at_return P readings times code (more - 1) a z returns
-          ∙ ap (λ (m : At). ok m.state) (sym (ap (λ (q : Came). q.at) x ∙ return-stays (fetch P readings times code a) a returns))
+          ∙ ap (λ (m : At). ok m.state) (sym (ap (λ (q : Stepped). q.at) x ∙ return-stays (fetch P readings times code a) a returns))
 
       -- any other instruction that is not refused goes on, with one less of the count
       pub run-goes : r.number ≤ accepted_number → r.over ≡ false
@@ -101,8 +93,8 @@ module _ (P : Program) (readings times : List ℤ) where
           let x = executed h in
           let z : refusal_at P readings times code a ≡ accepted_number = omega (arith, refusal) in
           ap (λ (k : ℕ). run_from P readings times code k a) own
-          ∙ passes P readings times code (more - 1) a z (sym (ap (λ (q : Came). q.over) x) ∙ y)
-          ∙ ap (λ (m : At). run_from P readings times code (more - 1) m) (sym (ap (λ (q : Came). q.at) x))
+          ∙ passes P readings times code (more - 1) a z (sym (ap (λ (q : Stepped). q.over) x) ∙ y)
+          ∙ ap (λ (m : At). run_from P readings times code (more - 1) m) (sym (ap (λ (q : Stepped). q.at) x))
 
   module _ (words : List ℕ) (s : State) where
     -- what is left to run from here is what was to run from the start
@@ -111,31 +103,27 @@ module _ (P : Program) (readings times : List ℤ) where
 
     -- at the start all instructions are left
     pub left-all : Left (length words / words_each) (start_at P readings times (instructions words) s)
-    left-all =
-        ap (λ (k : ℕ). run_from P readings times (instructions words) k (start_at P readings times (instructions words) s))
-        (sym (instructions-length words))
+    left-all = ap (λ (k : ℕ). run_from P readings times (instructions words) k (start_at P readings times (instructions words) s)) (sym (instructions-length words))
 
     module _ (more : ℕ) (a : At) (left : Left more a) where
       -- where no instruction is left, the count ends the instant
-      pub left-none : (o : Outcome) → more ≤ 0 → o ≡ ran_out (length words / words_each) a.address
-          → o ≡ run_instant P readings times (instructions words) s
-      left-none o l e =
+      pub left-none : (r : Advanced) → more ≤ 0 → r ≡ answer s (ran_out (length words / words_each) a.address)
+          → r ≡ answer s (run_instant P readings times (instructions words) s)
+      left-none r l e =
           let z : 0 ≡ more = omega arith in
           e
-          ∙ ap (λ (n : ℕ). ran_out n a.address) (sym (instructions-length words))
-          ∙ ap (λ (k : ℕ). run_from P readings times (instructions words) k a) z
-          ∙ left
+          ∙ ap (λ (n : ℕ). answer s (ran_out n a.address)) (sym (instructions-length words))
+          ∙ ap (answer s) (ap (λ (k : ℕ). run_from P readings times (instructions words) k a) z ∙ left)
 
-      module _ (l : 0 < more) (r : Came) (e : r ≡ step_at P readings times (instructions words) a) where
+      module _ (l : 0 < more) (r : Stepped) (e : r ≡ step_at P readings times (instructions words) a) where
         -- where the next instruction is refused, so is the instant
-        pub left-refused : (u : State) → accepted_number < r.number
-            → outcome_in r.number u ≡ run_instant P readings times (instructions words) s
-        left-refused u h = stopped r.number u h ∙ sym (run-refused (instructions words) a r e more l h) ∙ left
+        pub left-refused : accepted_number < r.number → record { number = r.number; state = s } ≡ answer s (run_instant P readings times (instructions words) s)
+        left-refused h = ap (answer s) (sym (run-refused (instructions words) a r e more l h) ∙ left)
 
         -- where the next instruction is a `return`, it ends the instant
         pub left_over : r.number ≤ accepted_number → r.over ≡ true
-            → outcome_in accepted_number r.at.state ≡ run_instant P readings times (instructions words) s
-        left_over h y = sym (run-over (instructions words) a r e more l h y) ∙ left
+            → record { number = accepted_number; state = r.at.state } ≡ answer s (run_instant P readings times (instructions words) s)
+        left_over h y = ap (answer s) (sym (run-over (instructions words) a r e more l h y) ∙ left)
 
         -- after any other instruction, one less is left
         pub left_less : r.number ≤ accepted_number → r.over ≡ false → Left (more - 1) r.at

@@ -21,48 +21,38 @@ use Rattle.machine.specs.declared.At.{At}
 use Rattle.machine.specs.Instruction.{is_faulty, time_bad, still_running, plan_at, executes}
 use Rattle.machine.specs.Instant.{is_return}
 use Rattle.instants.specs.declared.instructions.Stepped.{Stepped}
-use Rattle.instants.specs.Step.{Came, came_in, stepped}
+use Rattle.instants.specs.Step.{stepped}
 
 -- some unused word is not 0 exactly where their sum is not
 pub either-some : (m n : ℕ) → (ltb 0 m || ltb 0 n) ≡ ltb 0 (m + n)
 either-some zero n = ap (ltb 0) (sym (zero-add n))
 either-some (suc m) n = ap (λ (b : Bool). b || ltb 0 n) (lt-ltb 0 (suc m) (omega arith)) ∙ sym (lt-ltb 0 (suc m + n) (omega arith))
 
--- what is handed on, with the arrays after the instruction, where it is known what is handed on
-pub came : {ports outputs : List ℤ} {left positions : List ℕ} {r q : Stepped} → r ≡ q
-    → came_in ports outputs r left positions ≡ came_in ports outputs q left positions
-came {ports} {outputs} {left} {positions} e = ap (λ (r : Stepped). came_in ports outputs r left positions) e
-
 module _ (a : At) where
   -- an instruction refused with this number, the machine as it was
-  abbrev pub refused_with : ℕ → Came
+  abbrev pub refused_with : ℕ → Stepped
   refused_with number = record { number = number; over = false; at = a }
 
   -- an instruction executed: the machine on to the next address, with this state
-  abbrev pub moved : Bool → State → Came
+  abbrev pub moved : Bool → State → Stepped
   moved planned s =
       record { number = accepted_number; over = false; at = record { address = suc a.address; planned = planned; state = s } }
 
-  -- an instruction executed, as the code does it: one is added to the address
-  abbrev pub moved_on : Bool → State → Came
-  moved_on planned s =
-      record { number = accepted_number; over = false; at = record { address = a.address + 1; planned = planned; state = s } }
-
-  -- the next address is one more
-  pub moved-on : (planned : Bool) (s : State) → moved_on planned s ≡ moved planned s
+  -- the code adds one to the address
+  pub moved-on : (planned : Bool) (s : State)
+      → record { number = accepted_number; over = false; at = record { address = a.address + 1; planned = planned; state = s } }
+      ≡ moved planned s
   moved-on planned s =
-      ap
-      (λ (address : ℕ). record { number = accepted_number; over = false; at = record { address = address; planned = planned; state = s } })
-      (add-one a.address)
+      ap (λ (address : ℕ). record { number = accepted_number; over = false; at = record { address = address; planned = planned; state = s } }) (add-one a.address)
 
 module _ (P : Program) (readings times : List ℤ) (n : ℕ) (a : At) where
   module _ (o : Op) where
     -- what an instruction that is executed comes to
-    abbrev pub executed : Came
+    abbrev pub executed : Stepped
     executed = record { number = accepted_number; over = is_return o; at = executes P readings times o a }
 
     -- what an instruction comes to, by the tests of 19, 16 and 17
-    abbrev pub decided : Bool → Bool → Bool → Came
+    abbrev pub decided : Bool → Bool → Bool → Stepped
     decided faulty late running =
         elim (or_else faulty faulty_refused (or_else late time_refused (or_else running overrun_refused accepted_number))) [
           | zero ↦ executed
@@ -70,8 +60,7 @@ module _ (P : Program) (readings times : List ℤ) (n : ℕ) (a : At) where
         ]
 
     -- what the three tests decide is what the step comes to
-    pub decided-step : decided (is_faulty P n a.planned o) (time_bad P times o) (still_running a.state o)
-        ≡ stepped P readings times n o a
+    pub decided-step : decided (is_faulty P n a.planned o) (time_bad P times o) (still_running a.state o) ≡ stepped P readings times n o a
     unfolding stepped
     decided-step = refl
 
@@ -129,7 +118,11 @@ module _ (P : Program) (readings times : List ℤ) (n : ℕ) (a : At) where
 
   -- at a `future` that is not refused a block begins
   pub future-executed : (delay to : ℕ) → (a.planned || not (leb 1 delay && leb delay max_delay) || leb n to) ≡ false
-      → moved_on a true (plan_at P readings times a.address delay to a.state)
+      → record {
+        number = accepted_number;
+        over = false;
+        at = record { address = a.address + 1; planned = true; state = plan_at P readings times a.address delay to a.state };
+      }
       ≡ stepped P readings times n (decode future_number delay to) a
   unfolding in_range
   future-executed delay to e = moved-on a true _ ∙ step-executed (future delay to) e refl refl

@@ -1,40 +1,20 @@
 -- What one instruction of E code comes to, as the code hands it on: 19, 16 or 17, or the machine after it, and whether it was the
--- `return`. The machine's arrays are lent and changed in place; the rest of it goes by value.
-use Rattle.std.specs.Prelude.{ℕ, zero, suc, ◌^◌, Bool, true, false, List, ℤ, length}
+-- `return`.
+use Rattle.std.specs.Prelude.{ℕ, zero, suc, ◌^◌, true, false, List, ℤ, length}
 use Rattle.theory.specs.Verdict.{accepted_number, verdict}
 use Rattle.cells.specs.Refusals.{overrun_refused, faulty_refused}
 use Rattle.program.specs.Program.{Program}
 use Rattle.code.specs.Op.{Op}
 use Rattle.machine.specs.Instruction.{Call, names_nothing, still_called, called, instruction_refusals, executes}
 use Rattle.machine.specs.Instant.{is_return, fetch}
-use Rattle.machine.specs.Held.{state_in}
 use Rattle.machine.specs.declared.State.{State}
 use Rattle.machine.specs.declared.Advanced.{Advanced}
 use Rattle.machine.specs.declared.At.{At}
-use Rattle.instants.specs.declared.instructions.Going.{Going}
 use Rattle.instants.specs.declared.instructions.Stepped.{Stepped}
 
 -- every address of an instruction is smaller, since its code has fewer than 2^64 words; so the next address fits 64 bits
 abbrev pub address_end : ℕ
 address_end = 2 ^ 63
-
--- what an instruction comes to: its number, whether it was the `return`, and the machine after it
-pub record Came : Type 0 where
-  pub number : ℕ
-  pub over : Bool
-  pub at : At
-
--- the machine that has these arrays: port values, local outputs, remaining times and positions
-abbrev pub at_in : List ℤ → List ℤ → Going → List ℕ → List ℕ → At
-at_in ports outputs g left positions = record {
-  address = g.address;
-  planned = g.planned;
-  state = state_in ports outputs g.clock left positions;
-}
-
--- what is handed on, with the arrays after the instruction
-abbrev pub came_in : List ℤ → List ℤ → Stepped → List ℕ → List ℕ → Came
-came_in ports outputs r left positions = record { number = r.number; over = r.over; at = at_in ports outputs r.going left positions }
 
 module _ (P : Program) (readings times : List ℤ) where
   -- what a call comes to: 19 if it names nothing, 17 if its task is still running, or the state after it
@@ -48,12 +28,12 @@ module _ (P : Program) (readings times : List ℤ) where
   ]
 
   -- what an instruction comes to, in a code of n instructions
-  unfoldable pub stepped : ℕ → Op → At → Came
+  unfoldable pub stepped : ℕ → Op → At → Stepped
   stepped n o a = elim (verdict (instruction_refusals P readings times n o) a) [
     | zero ↦ record { number = accepted_number; over = is_return o; at = executes P readings times o a }
     | suc m ↦ record { number = suc m; over = false; at = a }
   ]
 
   -- what the instruction that stands at the machine's address comes to
-  abbrev pub step_at : List Op → At → Came
+  abbrev pub step_at : List Op → At → Stepped
   step_at code a = stepped (length code) (fetch P readings times code a) a

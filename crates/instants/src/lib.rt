@@ -1,75 +1,71 @@
 // One instant of the E machine over lent words: from the pending address to `return`, in at most as many instructions as there are.
-ghost use Rattle.std.specs.Prelude.{◌≡◌};
+ghost use Rattle.std.specs.Prelude.{◌≡◌, ℤ};
+ghost use Rattle.program.specs.Tables.{tables_in};
+ghost use Rattle.program.specs.Program.{program_of};
+ghost use Rattle.rules.specs.Shape.{InShape};
 ghost use Rattle.code.specs.Op.{instructions};
-ghost use Rattle.machine.specs.declared.State.{State};
 ghost use Rattle.machine.specs.Instant.{ran_out, run_instant};
-ghost use Rattle.machine.specs.Held.{state_in, outcome_in};
-ghost use Rattle.image.specs.Parts.{program_in};
+ghost use Rattle.machine.specs.Advance.{answer};
 
-use crate::instructions::Going;
 use cells::limits::Program;
 use cells::refusals;
-use machine::{Clock, Ticked};
+use machine::{Advanced, At, State};
 
 mod calls;
 mod instructions;
 
 // What an instant comes to after as many instructions as the code has: 20 at an address inside the code, 19 at one past its end.
-fn spent(count: usize, address: usize) -> usize
-    ensures { (s : State) → outcome_in result s ≡ ran_out count address }
+fn spent(count: usize, address: usize, s: State) -> Advanced
+    ensures { result ≡ answer s (ran_out count address) }
 {
     if address < count {
-        return refusals::COUNT;
+        return Advanced {
+            number: refusals::COUNT,
+            state: s,
+        };
     }
-    refusals::FAULTY
+    Advanced {
+        number: refusals::FAULTY,
+        state: s,
+    }
 }
 
-// One instant changes the state in place; where its number is not 0 it is refused, and the arrays are of no use.
+// The state after one instant, or its refusal with the state as it was.
 pub fn instant(
-    parts: &[u32],
+    tables: &[&[i32]; Program::TABLES],
     code: &[u32],
     readings: &[i32],
     times: &[i32],
-    outputs: &[i32],
-    ports: &mut [i32; Program::PORTS],
-    left: &mut [usize; Program::TASKS],
-    positions: &mut [usize; Program::SUPPLIERS],
-    c: Clock,
-) -> Ticked
-    ensures { outcome_in result.number
-        (state_in ports.new outputs.now result.clock left.new positions.new)
-        ≡ run_instant (program_in parts.now) readings.now times.now (instructions code.now)
-        (state_in ports.old outputs.now c left.old positions.old) }
+    s: State,
+) -> Advanced
+    requires { InShape tables.now }
+    ensures { (start : ℤ) → let P = program_of (tables_in tables.now start) in
+        result ≡ answer s (run_instant P readings.now times.now (instructions code.now) s) }
 {
     let count = code.len() / Program::WORDS;
-    let mut going = Going {
-        address: c.pending,
+    let mut at = At {
+        address: s.pending,
         planned: false,
-        clock: c,
+        state: s,
     };
     let mut more = count;
     while 0 < more {
-        let next = instructions::step(
-            parts, code, readings, times, outputs, ports, left, positions, going,
-        );
+        let next = instructions::step(tables, code, readings, times, at);
         if refusals::ACCEPTED < next.number {
-            return Ticked {
+            return Advanced {
                 number: next.number,
-                clock: c,
+                state: s,
             };
         }
-        going = instructions::again(next.going);
+        at = next.at;
         if next.over {
-            let clock = going.clock;
-            return Ticked {
+            let state = at.state;
+            return Advanced {
                 number: refusals::ACCEPTED,
-                clock,
+                state,
             };
         }
         more -= 1;
     }
-    Ticked {
-        number: spent(count, going.address),
-        clock: c,
-    }
+    spent(count, at.address, s)
 }

@@ -12,10 +12,10 @@ use Rattle.cells.specs.Limits.{max_ports}
 use Rattle.program.specs.Tables.{Tables}
 use Rattle.program.specs.Program.{program_of}
 use Rattle.rules.specs.Verdict.{program_verdict, program_answer}
+use Rattle.code.specs.Op.{instructions}
 use Rattle.machine.specs.declared.Handed.{Handed}
 use Rattle.machine.specs.Instant.{Outcome}
-use Rattle.machine.specs.Advance.{state_of, fresh_answer, Advance, advance_refusals, advance_verdict}
-use Rattle.machine.specs.Advance.{System, system_of, step, answer, handed, advance_answer}
+use Rattle.machine.specs.Advance.{state_of, fresh_answer, Advance, step, answer, handed, advance_refusals, advance_verdict, advance_answer}
 
 module _ (T : Tables) where
   -- the fresh state of a program that is refused is all 0
@@ -35,12 +35,9 @@ module _ (T : Tables) where
   fresh-accepted e = rw (e, fresh_answer)
 
 module _ (L : Advance) where
-  -- the system that an advance runs, and its step
-  abbrev pub system : System
-  system = system_of L.tables L.code L.schedule
-
+  -- the step that an advance runs
   abbrev pub outcome : Outcome
-  outcome = step system L.lent L.state
+  outcome = step (program_of L.tables) (instructions L.code) L.schedule L.lent L.state
 
   -- the number of the first refusal before anything runs is the verdict
   pub judged-number : (first_refusal advance_refusals L).number ≡ advance_verdict L

@@ -14,7 +14,7 @@ use Rattle.program.specs.Program.{Program}
 use Rattle.runs.specs.Tick.{Act, rest, work, runs}
 use Rattle.machine.specs.declared.State.{State}
 use Rattle.machine.specs.Instant.{stop}
-use Rattle.machine.specs.Schedules.{Blocks, Who, nobody, one, several, join, who_runs, act_of, running, Collision, ticked, tick_all}
+use Rattle.machine.specs.Schedules.{Who, nobody, one, several, join, who_runs, act_of, running, Collision, ticked, tick_all}
 use Rattle.machine.proofs.Outcomes.{ok-not-stop, stopped, not-nobody, not-one}
 
 -- what is known of the suppliers below n when so many of them run
@@ -58,23 +58,20 @@ two-are-several acts n i j l b p q = go (who_runs acts n) refl (known acts n)
     go several e k = e
 
 -- several run exactly where two suppliers run in one tick (18)
-pub collides : (B : Blocks) (s : State) → (running B s ≡ several) ↔ Collision B s
-collides B s = (
-  there,
-  λ c. two-are-several (act_of B s) suppliers c.one-supplier c.other-supplier c.apart c.in-range c.one-runs c.other-runs,
-)
+pub collides : (S : List ℤ) (s : State) → (running S s ≡ several) ↔ Collision S s
+collides S s = (there, λ c. two-are-several (act_of S s) suppliers c.one-supplier c.other-supplier c.apart c.in-range c.one-runs c.other-runs)
   where
-    there : running B s ≡ several → Collision B s
+    there : running S s ≡ several → Collision S s
     there e =
-        let k : Known (act_of B s) suppliers several = subst (Known (act_of B s) suppliers) e (known (act_of B s) suppliers) in
+        let k : Known (act_of S s) suppliers several = subst (Known (act_of S s) suppliers) e (known (act_of S s) suppliers) in
         record { one-supplier = k.0; other-supplier = k.1; apart = k.2; in-range = k.3; one-runs = k.4; other-runs = k.5 }
 
 -- a tick is refused, with 18, exactly where two suppliers run in it
-pub tick-refused : (P : Program) (B : Blocks) (results : List ℤ) (s : State) (n : ℕ)
-    → (tick_all P B results s ≡ stop n) ↔ ((n ≡ collision_refused) × Collision B s)
-tick-refused P B results s n = go (running B s) refl
+pub tick-refused : (P : Program) (S results : List ℤ) (s : State) (n : ℕ)
+    → (tick_all P S results s ≡ stop n) ↔ ((n ≡ collision_refused) × Collision S s)
+tick-refused P S results s n = go (running S s) refl
   where
-    go : (w : Who) → running B s ≡ w → (ticked P B results s w ≡ stop n) ↔ ((n ≡ collision_refused) × Collision B s)
-    go nobody e = (λ q. absurd (ok-not-stop q), λ c. absurd (not-nobody (sym e ∙ (collides B s).1 c.1)))
-    go (one t) e = (λ q. absurd (ok-not-stop q), λ c. absurd (not-one (sym e ∙ (collides B s).1 c.1)))
-    go several e = (λ q. (sym (stopped q), (collides B s).0 e), λ c. ap stop (sym c.0))
+    go : (w : Who) → running S s ≡ w → (ticked P S results s w ≡ stop n) ↔ ((n ≡ collision_refused) × Collision S s)
+    go nobody e = (λ q. absurd (ok-not-stop q), λ c. absurd (not-nobody (sym e ∙ (collides S s).1 c.1)))
+    go (one t) e = (λ q. absurd (ok-not-stop q), λ c. absurd (not-one (sym e ∙ (collides S s).1 c.1)))
+    go several e = (λ q. (sym (stopped q), (collides S s).0 e), λ c. ap stop (sym c.0))

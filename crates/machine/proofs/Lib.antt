@@ -1,7 +1,6 @@
 -- Laws of the machine: each number of execution under exactly its condition, and what an advance leaves as it was.
 pub mod Outcomes
 pub mod Collide
-pub mod Blocks
 pub mod Instructions
 pub mod Instants
 pub mod Comes

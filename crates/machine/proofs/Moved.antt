@@ -19,18 +19,17 @@ use Rattle.program.specs.Program.{Program, task}
 use Rattle.program.specs.Ports.{value_of, assigned}
 use Rattle.program.proofs.Ports.{assigned-at, assigned-miss}
 use Rattle.runs.specs.Tick.{left_of, work, left_after}
-use Rattle.runs.specs.Schedule.{block_of}
 use Rattle.machine.specs.declared.State.{State}
 use Rattle.machine.specs.declared.Handed.{Handed}
 use Rattle.machine.specs.Instant.{Outcome, ok, stop}
-use Rattle.machine.specs.Schedules.{Blocks, Who, nobody, one, several, moved_of, running, outputs_after, after_tick, ticked, tick_all}
+use Rattle.machine.specs.Schedules.{Who, nobody, one, several, moved_of, running, outputs_after, after_tick, ticked, tick_all}
 use Rattle.machine.specs.Advance.{Advance, advance_verdict, answer, advance_answer}
 use Rattle.machine.specs.Comes.{program, code, Returns, BeforeTick}
 use Rattle.machine.specs.Moves.{Works, Passes, InstantKeeps, Advances}
 use Rattle.machine.proofs.Outcomes.{ok-not-stop, finished}
 use Rattle.machine.proofs.Completing.{outputs-done, outputs-same}
 use Rattle.machine.proofs.Ready.{step-leaves}
-use Rattle.machine.proofs.Answered.{system, outcome, advance-steps, refused-number, step-answered}
+use Rattle.machine.proofs.Answered.{outcome, advance-steps, refused-number, step-answered}
 use Rattle.machine.proofs.Refusals.{step-number}
 use Rattle.machine.proofs.Comes.{returns}
 use Rattle.machine.proofs.Stopped.{before-tick}
@@ -61,17 +60,17 @@ module _ (P : Program) (results : List ℤ) (s : State) (t : ℕ) where
   outputs-stay p (inr d) = ap (λ (v : List ℤ). value_of v p) (outputs-same P results s t d)
 
 -- the rows that a supplier has passed stay passed
-positions-rise : (B : Blocks) (s : State) (j : ℕ) → j < suppliers → get_or s.positions j 0 ≤ get_or (each (moved_of B s) suppliers 0) j 0
-positions-rise B s j l = let e = each_at (moved_of B s) suppliers j 0 l in omega (arith, e)
+positions-rise : (S : List ℤ) (s : State) (j : ℕ) → j < suppliers → get_or s.positions j 0 ≤ get_or (each (moved_of S s) suppliers 0) j 0
+positions-rise S s j l = let e = each_at (moved_of S s) suppliers j 0 l in omega (arith, e)
 
 -- a tick that is not refused changes only what the claims say
-pub tick-passes : (P : Program) (B : Blocks) (results : List ℤ) (s u : State) → tick_all P B results s ≡ ok u → Passes P B results s u
-tick-passes P B results s u = go (running B s) refl
+pub tick-passes : (P : Program) (S results : List ℤ) (s u : State) → tick_all P S results s ≡ ok u → Passes P S results s u
+tick-passes P S results s u = go (running S s) refl
   where
-    go : (w : Who) → running B s ≡ w → ticked P B results s w ≡ ok u → Passes P B results s u
+    go : (w : Who) → running S s ≡ w → ticked P S results s w ≡ ok u → Passes P S results s u
     go nobody e q =
-        let v = after_tick B s s.left s.outputs in
-        subst (Passes P B results s) (finished q)
+        let v = after_tick S s s.left s.outputs in
+        subst (Passes P S results s) (finished q)
         (record {
           time = refl;
           ports = refl;
@@ -79,12 +78,12 @@ tick-passes P B results s u = go (running B s) refl
           current = refl;
           elapsed = refl;
           remaining = refl;
-          positions = positions-rise B s;
+          positions = positions-rise S s;
           works = subst (λ (w : Who). Works P results w s v) (sym e) (refl, refl);
         })
     go (one t) e q =
-        let v = after_tick B s (left_after (work t) s.left) (outputs_after P results s t) in
-        subst (Passes P B results s) (finished q)
+        let v = after_tick S s (left_after (work t) s.left) (outputs_after P results s t) in
+        subst (Passes P S results s) (finished q)
         (record {
           time = refl;
           ports = refl;
@@ -92,7 +91,7 @@ tick-passes P B results s u = go (running B s) refl
           current = refl;
           elapsed = refl;
           remaining = refl;
-          positions = positions-rise B s;
+          positions = positions-rise S s;
           works = subst (λ (w : Who). Works P results w s v) (sym e) (record {
             nearer = less-at s.left t;
             others = λ j d. get_or-set_other s.left t j (left_of s.left t - 1) 0 d;
@@ -109,7 +108,7 @@ module _ (L : Advance) where
     where
       end : (o : Outcome) → outcome L ≡ o → (answer L.state o).number ≡ accepted_number → o ≡ ok (answer L.state o).state
       end (ok u) e q = refl
-      end (stop n) e q = absurd (omega (arith, q, step-number (system L) L.lent L.state n e))
+      end (stop n) e q = absurd (omega (arith, q, step-number (program L) (code L) L.schedule L.lent L.state n e))
 
       go : Dec (accepted_number < advance_verdict L) → outcome L ≡ ok (advance_answer L).state
       go (yes l) = absurd (omega (arith, z, l, refused-number L l))
@@ -119,12 +118,12 @@ module _ (L : Advance) where
 
   -- an accepted advance has a state before its tick, from which the tick passes
   before : (advance_answer L).answer.number ≡ accepted_number
-      → (v : State) × BeforeTick L v × Passes (program L) (block_of L.schedule) L.lent.results v (advance_answer L).state
+      → (v : State) × BeforeTick L v × Passes (program L) L.schedule L.lent.results v (advance_answer L).state
   before z =
-      let w = step-leaves (system L) L.lent L.state (advance_answer L).state (accepted z) in (
+      let w = step-leaves (program L) (code L) L.schedule L.lent L.state (advance_answer L).state (accepted z) in (
         w.0,
         (before-tick L w.0).0 w.1,
-        tick-passes (program L) (block_of L.schedule) L.lent.results w.0 (advance_answer L).state w.2,
+        tick-passes (program L) L.schedule L.lent.results w.0 (advance_answer L).state w.2,
       )
 
   -- an accepted advance changes only what the claims say

@@ -13,7 +13,7 @@ use Rattle.code.specs.Op.{Op}
 use Rattle.machine.specs.declared.State.{State}
 use Rattle.machine.specs.Instant.{Outcome, ok, stop, start_at, run_instant, Ends, RefusedAt, Spent}
 use Rattle.machine.specs.Schedules.{tick_all}
-use Rattle.machine.specs.Advance.{Lent, System, ready, step}
+use Rattle.machine.specs.Advance.{Lent, ready, step}
 use Rattle.machine.proofs.Outcomes.{ok-not-stop, finished}
 use Rattle.machine.proofs.Instants.{instant-ends, instant-stops}
 
@@ -70,40 +70,36 @@ module _ (P : Program) (code : List Op) (readings times : List ℤ) (s : State) 
       there (no l) e =
           let z : s.remaining ≡ 0 = omega (arith, l) in (z, (instant-stops P readings times code s n).0 (sym (ready-runs z) ∙ e))
 
-module _ (Y : System) (X : Lent) (s : State) where
-  -- the E part of the step
-  abbrev pub begun : Outcome
-  begun = ready Y.program Y.code X.readings X.times s
-
+module _ (P : Program) (code : List Op) (S : List ℤ) (X : Lent) (s : State) where
   -- what the step comes to after this outcome of its E part
   abbrev pub goes : Outcome → Outcome
-  goes o = elim o [ ok u ↦ tick_all Y.program Y.blocks X.results u | stop n ↦ stop n ]
+  goes o = elim o [ ok u ↦ tick_all P S X.results u | stop n ↦ stop n ]
 
   -- a step that leaves u has a tick that does, from what the E part left
-  pub step-leaves : (u : State) → step Y X s ≡ ok u
-      → (v : State) × (begun ≡ ok v) × (tick_all Y.program Y.blocks X.results v ≡ ok u)
-  step-leaves u = go begun refl
+  pub step-leaves : (u : State) → step P code S X s ≡ ok u
+      → (v : State) × (ready P code X.readings X.times s ≡ ok v) × (tick_all P S X.results v ≡ ok u)
+  step-leaves u = go (ready P code X.readings X.times s) refl
     where
-      go : (o : Outcome) → begun ≡ o → goes o ≡ ok u
-          → (v : State) × (begun ≡ ok v) × (tick_all Y.program Y.blocks X.results v ≡ ok u)
+      go : (o : Outcome) → ready P code X.readings X.times s ≡ o → goes o ≡ ok u
+          → (v : State) × (ready P code X.readings X.times s ≡ ok v) × (tick_all P S X.results v ≡ ok u)
       go (ok v) e q = (v, e, q)
       go (stop n) e q = absurd (ok-not-stop (sym q))
 
   -- the step is refused exactly where its E part is, or the tick from what that left
   pub step-refused : (n : ℕ)
-      → (step Y X s ≡ stop n)
-      ↔ ((begun ≡ stop n)
-      ⊎ ((v : State) × (begun ≡ ok v) × (tick_all Y.program Y.blocks X.results v ≡ stop n)))
-  step-refused n = (go begun refl, back)
+      → (step P code S X s ≡ stop n)
+      ↔ ((ready P code X.readings X.times s ≡ stop n)
+      ⊎ ((v : State) × (ready P code X.readings X.times s ≡ ok v) × (tick_all P S X.results v ≡ stop n)))
+  step-refused n = (go (ready P code X.readings X.times s) refl, back)
     where
-      go : (o : Outcome) → begun ≡ o → goes o ≡ stop n
-          → (begun ≡ stop n)
-          ⊎ ((v : State) × (begun ≡ ok v) × (tick_all Y.program Y.blocks X.results v ≡ stop n))
+      go : (o : Outcome) → ready P code X.readings X.times s ≡ o → goes o ≡ stop n
+          → (ready P code X.readings X.times s ≡ stop n)
+          ⊎ ((v : State) × (ready P code X.readings X.times s ≡ ok v) × (tick_all P S X.results v ≡ stop n))
       go (ok v) e q = inr (v, e, q)
       go (stop m) e q = inl (e ∙ q)
 
-      back : (begun ≡ stop n)
-          ⊎ ((v : State) × (begun ≡ ok v) × (tick_all Y.program Y.blocks X.results v ≡ stop n))
-          → step Y X s ≡ stop n
+      back : (ready P code X.readings X.times s ≡ stop n)
+          ⊎ ((v : State) × (ready P code X.readings X.times s ≡ ok v) × (tick_all P S X.results v ≡ stop n))
+          → step P code S X s ≡ stop n
       back (inl e) = ap goes e
       back (inr w) = ap goes w.1 ∙ w.2

@@ -15,9 +15,9 @@ use Rattle.machine.specs.declared.State.{State}
 use Rattle.machine.specs.declared.Handed.{Handed}
 use Rattle.machine.specs.Instant.{Outcome, ok, stop, start_at, RefusedAt, Spent}
 use Rattle.machine.specs.Schedules.{tick_all}
-use Rattle.machine.specs.Advance.{Lent, Advance, advance_verdict, System, ready, step, answer, advance_answer}
+use Rattle.machine.specs.Advance.{Lent, Advance, advance_verdict, ready, step, answer, advance_answer}
 use Rattle.machine.proofs.Collide.{tick-refused}
-use Rattle.machine.proofs.Ready.{ready-stops, begun, step-refused}
+use Rattle.machine.proofs.Ready.{ready-stops, step-refused}
 use Rattle.machine.proofs.Answered.{outcome, advance-refused, advance-steps, step-answered}
 
 -- an advance that is refused hands the state back as it was
@@ -48,10 +48,12 @@ ready-number P code readings times s n e = number ((ready-stops P code readings 
         end (inr x) = omega (arith, x.1)
 
 -- no step is refused with 0, so 0 is given only where the state moves
-pub step-number : (Y : System) (X : Lent) (s : State) (n : ℕ) → step Y X s ≡ stop n → accepted_number < n
-step-number Y X s n e = go ((step-refused Y X s n).0 e)
+pub step-number : (P : Program) (code : List Op) (S : List ℤ) (X : Lent) (s : State) (n : ℕ) → step P code S X s ≡ stop n
+    → accepted_number < n
+step-number P code S X s n e = go ((step-refused P code S X s n).0 e)
   where
-    go : (begun Y X s ≡ stop n) ⊎ ((v : State) × (begun Y X s ≡ ok v) × (tick_all Y.program Y.blocks X.results v ≡ stop n))
+    go : (ready P code X.readings X.times s ≡ stop n)
+        ⊎ ((v : State) × (ready P code X.readings X.times s ≡ ok v) × (tick_all P S X.results v ≡ stop n))
         → accepted_number < n
-    go (inl f) = ready-number Y.program Y.code X.readings X.times s n f
-    go (inr w) = omega (arith, ((tick-refused Y.program Y.blocks X.results w.0 n).0 w.2).0)
+    go (inl f) = ready-number P code X.readings X.times s n f
+    go (inr w) = omega (arith, ((tick-refused P S X.results w.0 n).0 w.2).0)

@@ -10,37 +10,32 @@ use lib.ListN.{length}
 use Rattle.theory.specs.Verdict.{accepted_number}
 use Rattle.cells.specs.Refusals.{time_refused, overrun_refused, collision_refused, faulty_refused, count_refused}
 use Rattle.program.specs.Program.{Program}
-use Rattle.runs.specs.Schedule.{block_of}
 use Rattle.machine.specs.declared.State.{State}
 use Rattle.machine.specs.declared.At.{At}
 use Rattle.machine.specs.Instant.{Outcome, ok, stop, Ends, RefusedAt, Spent}
-use Rattle.machine.specs.Schedules.{Blocks, Who, nobody, one, several, running, Collision, ticked, tick_all}
+use Rattle.machine.specs.Schedules.{Who, nobody, one, several, running, Collision, ticked, tick_all}
 use Rattle.machine.specs.Advance.{Advance, ready}
 use Rattle.machine.specs.Comes.{program, code, instant_start, FaultyAt, TimeBadAt, RunningAt, Reaches, RanAll, Faults, TimeWrong}
 use Rattle.machine.specs.Comes.{Overruns, RunsOn, BeforeTick, Collides, TickPasses}
 use Rattle.machine.proofs.Outcomes.{ok-not-stop}
 use Rattle.machine.proofs.Collide.{collides, tick-refused}
 use Rattle.machine.proofs.Ready.{ready-leaves, ready-stops, goes, step-leaves, step-refused}
-use Rattle.machine.proofs.Answered.{system, outcome}
+use Rattle.machine.proofs.Answered.{outcome}
 use Rattle.machine.proofs.Comes.{Order, instruction-refused, comes-goes, goes-comes, returns}
 
 -- a tick in which no two suppliers run passes
-tick_goes : (P : Program) (B : Blocks) (results : List ℤ) (s : State) → (Collision B s → ⊥) → (u : State) × (tick_all P B results s ≡ ok u)
-tick_goes P B results s d = go (running B s) refl
+tick_goes : (P : Program) (S results : List ℤ) (s : State) → (Collision S s → ⊥) → (u : State) × (tick_all P S results s ≡ ok u)
+tick_goes P S results s d = go (running S s) refl
   where
-    go : (w : Who) → running B s ≡ w → (u : State) × (ticked P B results s w ≡ ok u)
+    go : (w : Who) → running S s ≡ w → (u : State) × (ticked P S results s w ≡ ok u)
     go nobody e = (_, refl)
     go (one t) e = (_, refl)
-    go several e = absurd (d ((collides B s).0 e))
+    go several e = absurd (d ((collides S s).0 e))
 
 module _ (L : Advance) where
   -- the E part of the step, and what it comes to by the tests
   abbrev begins : Outcome
   begins = ready (program L) (code L) L.lent.readings L.lent.times L.state
-
-  -- its tick
-  abbrev ticks : State → Outcome
-  ticks v = tick_all (program L) (block_of L.schedule) L.lent.results v
 
   abbrev Refused : ℕ → Type 0
   Refused n = RefusedAt (program L) L.lent.readings L.lent.times (code L) (length (code L)) (instant_start L) n
@@ -141,31 +136,31 @@ module _ (L : Advance) where
   outcome-stops n = (λ e. there (steps.0 e), λ w. steps.1 (back w))
     where
       steps : (outcome L ≡ stop n)
-          ↔ ((begins ≡ stop n) ⊎ ((v : State) × (begins ≡ ok v) × (ticks v ≡ stop n)))
-      steps = step-refused (system L) L.lent L.state n
+          ↔ ((begins ≡ stop n) ⊎ ((v : State) × (begins ≡ ok v) × (tick_all (program L) L.schedule L.lent.results v ≡ stop n)))
+      steps = step-refused (program L) (code L) L.schedule L.lent L.state n
 
-      there : (begins ≡ stop n) ⊎ ((v : State) × (begins ≡ ok v) × (ticks v ≡ stop n))
+      there : (begins ≡ stop n) ⊎ ((v : State) × (begins ≡ ok v) × (tick_all (program L) L.schedule L.lent.results v ≡ stop n))
           → InstantStops n ⊎ ((n ≡ collision_refused) × Collides L)
       there (inl e) = inl ((instant-stops n).0 e)
       there (inr (v, b, t)) =
-          let c = (tick-refused (program L) (block_of L.schedule) L.lent.results v n).0 t in inr (c.0, (v, (before-tick v).0 b, c.1))
+          let c = (tick-refused (program L) L.schedule L.lent.results v n).0 t in inr (c.0, (v, (before-tick v).0 b, c.1))
 
       back : InstantStops n ⊎ ((n ≡ collision_refused) × Collides L)
-          → (begins ≡ stop n) ⊎ ((v : State) × (begins ≡ ok v) × (ticks v ≡ stop n))
+          → (begins ≡ stop n) ⊎ ((v : State) × (begins ≡ ok v) × (tick_all (program L) L.schedule L.lent.results v ≡ stop n))
       back (inl w) = inl ((instant-stops n).1 w)
       back (inr (e, (v, b, c))) =
-          inr (v, (before-tick v).1 b, (tick-refused (program L) (block_of L.schedule) L.lent.results v n).1 (e, c))
+          inr (v, (before-tick v).1 b, (tick-refused (program L) L.schedule L.lent.results v n).1 (e, c))
 
   -- where the step is not refused, the tick passes
   pub outcome-passes : (u : State) → outcome L ≡ ok u → TickPasses L
   outcome-passes u e =
-      let (v, b, t) = step-leaves (system L) L.lent L.state u e in (
+      let (v, b, t) = step-leaves (program L) (code L) L.schedule L.lent L.state u e in (
         v,
         (before-tick v).0 b,
-        λ c. ok-not-stop (sym t ∙ (tick-refused (program L) (block_of L.schedule) L.lent.results v collision_refused).1 (refl, c)),
+        λ c. ok-not-stop (sym t ∙ (tick-refused (program L) L.schedule L.lent.results v collision_refused).1 (refl, c)),
       )
 
   pub passes-outcome : TickPasses L → (u : State) × (outcome L ≡ ok u)
   passes-outcome (v, b, d) =
-      let (u, t) = tick_goes (program L) (block_of L.schedule) L.lent.results v d in
-      (u, ap (goes (system L) L.lent L.state) ((before-tick v).1 b) ∙ t)
+      let (u, t) = tick_goes (program L) L.schedule L.lent.results v d in
+      (u, ap (goes (program L) (code L) L.schedule L.lent L.state) ((before-tick v).1 b) ∙ t)

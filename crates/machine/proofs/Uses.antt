@@ -23,7 +23,6 @@ use Rattle.rules.specs.Fields.{in_range}
 use Rattle.rules.specs.Shape.{bad_length}
 use Rattle.rules.specs.Verdict.{table_refusals}
 use Rattle.runs.specs.Tick.{left_of, work, left_after}
-use Rattle.runs.specs.Schedule.{block_of}
 use Rattle.code.specs.Op.{Op, call, schedule, branch, jump, future, return, faulty}
 use Rattle.code.specs.Compile.{long_refusal}
 use Rattle.machine.specs.declared.State.{State}
@@ -33,7 +32,7 @@ use Rattle.machine.specs.Instruction.{Call, driver_call, output_call, sensor_cal
 use Rattle.machine.specs.Instruction.{still_running, called, executes}
 use Rattle.machine.specs.Instant as instant
 use Rattle.machine.specs.Instant.{Outcome, ok, stop, is_return, refusal_at, Goes}
-use Rattle.machine.specs.Schedules.{Blocks, Who, nobody, one, several, running, after_tick, ticked, tick_all}
+use Rattle.machine.specs.Schedules.{Who, nobody, one, several, running, after_tick, ticked, tick_all}
 use Rattle.machine.specs.Advance.{Lent, Advance, advance_shape_bad, run_refusals, advance_refusals, advance_verdict, advance_answer}
 use Rattle.machine.specs.Advance.{ready, answer, handed}
 use Rattle.machine.specs.Comes.{program, code, instant_start, standing, FaultyAt}
@@ -141,12 +140,12 @@ module _ (P : Program) (code : List Op) (readings others times times₂ : List �
           going u (ap (refusal (is_faulty P (length code) a.planned o)) (same-time o u)) ih (refusal_at P readings times code a) refl (is_return o) refl
 
 -- the tick of the schedules from u is the same, if so are the results of the task that completes in it
-same-tick : (P : Program) (B : Blocks) (results others : List ℤ) (u : State)
-    → ((t p : ℕ) → running B u ≡ one t → left_of u.left t ≡ 1 → member p (task P t).gives ≡ true → value_of results p ≡ value_of others p)
-    → tick_all P B results u ≡ tick_all P B others u
-same-tick P B results others u h = go (running B u) refl
+same-tick : (P : Program) (S results others : List ℤ) (u : State)
+    → ((t p : ℕ) → running S u ≡ one t → left_of u.left t ≡ 1 → member p (task P t).gives ≡ true → value_of results p ≡ value_of others p)
+    → tick_all P S results u ≡ tick_all P S others u
+same-tick P S results others u h = go (running S u) refl
   where
-    outputs : (t : ℕ) → running B u ≡ one t → (b : Bool) → eqb (left_of u.left t) 1 ≡ b
+    outputs : (t : ℕ) → running S u ≡ one t → (b : Bool) → eqb (left_of u.left t) 1 ≡ b
         → ◌≡◌ {A = List ℤ} (elim b [ true ↦ puts (assigned (value_of results) (task P t).gives) u.outputs | false ↦ u.outputs ])
         (elim b [ true ↦ puts (assigned (value_of others) (task P t).gives) u.outputs | false ↦ u.outputs ])
     outputs t r true e =
@@ -156,10 +155,10 @@ same-tick P B results others u h = go (running B u) refl
         (λ p m. ap (λ (x : ℤ). record { place = p; value = x }) (h t p r (eqb-true (left_of u.left t) 1 e) m))))
     outputs t r false e = refl
 
-    go : (w : Who) → running B u ≡ w → ticked P B results u w ≡ ticked P B others u w
+    go : (w : Who) → running S u ≡ w → ticked P S results u w ≡ ticked P S others u w
     go nobody e = refl
     go (one t) e =
-        ap (λ (v : List ℤ). ok (after_tick B u (left_after (work t) u.left) v)) (outputs t e (eqb (left_of u.left t) 1) refl)
+        ap (λ (v : List ℤ). ok (after_tick S u (left_after (work t) u.left) v)) (outputs t e (eqb (left_of u.left t) 1) refl)
     go several e = refl
 
 -- where the lengths are the same, so are the numbers that are given before anything runs
@@ -231,14 +230,12 @@ module _ (L : Advance) (X : Lent) (A : Agrees L X) where
       ∙ ap then same-ready
     where
       then : Outcome → Outcome
-      then o = elim o [ ok u ↦ tick_all (program L) (block_of L.schedule) X.results u | stop n ↦ stop n ]
+      then o = elim o [ ok u ↦ tick_all (program L) L.schedule X.results u | stop n ↦ stop n ]
 
       go : (o : Outcome) → ready (program L) (code L) L.lent.readings L.lent.times L.state ≡ o
-          → ◌≡◌ {A = Outcome}
-          (elim o [ ok u ↦ tick_all (program L) (block_of L.schedule) L.lent.results u | stop n ↦ stop n ])
-          (then o)
+          → ◌≡◌ {A = Outcome} (elim o [ ok u ↦ tick_all (program L) L.schedule L.lent.results u | stop n ↦ stop n ]) (then o)
       go (ok u) e =
-          same-tick (program L) (block_of L.schedule) L.lent.results X.results u
+          same-tick (program L) L.schedule L.lent.results X.results u
           (λ t p r q m. A.results t p (record {
             before-tick = u;
             begins = (before-tick L u).0 e;

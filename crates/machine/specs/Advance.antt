@@ -11,7 +11,7 @@ use Rattle.program.specs.Program.{Program, program_of}
 use Rattle.rules.specs.Shape.{bad_slice, bad_length, shape_bad, WholeRows, Shaped}
 use Rattle.rules.specs.Verdict.{program_verdict, program_answer}
 use Rattle.runs.specs.Tick.{left_of}
-use Rattle.runs.specs.Schedule.{schedule_width, schedule_count, block_of}
+use Rattle.runs.specs.Schedule.{schedule_width, schedule_count}
 use Rattle.code.specs.Op.{Op, instructions}
 use Rattle.code.specs.Compile.{call_refusals, call_rules}
 use Rattle.suppliers.specs.Schedule.{joined_tests, joined_bad, Joined, joined_row_rules}
@@ -19,7 +19,7 @@ use Rattle.machine.specs.declared.State.{State}
 use Rattle.machine.specs.declared.Advanced.{Advanced}
 use Rattle.machine.specs.declared.Handed.{Handed}
 use Rattle.machine.specs.Instant.{Outcome, ok, stop, run_instant}
-use Rattle.machine.specs.Schedules.{Blocks, tick_all}
+use Rattle.machine.specs.Schedules.{tick_all}
 
 abbrev pub state_of : List ℤ → State
 state_of v = record {
@@ -128,32 +128,12 @@ run_rules =
 abbrev pub advance_rules : List (Rule Advance)
 advance_rules = call_rules (λ L. L.tables) AdvanceShaped run_rules
 
--- what the machine runs: a program, the instructions of its E code, the block of each supplier at each address, and how many rows there
--- are in all
-pub record System : Type 0 where
-  pub program : Program
-  pub code : List Op
-  pub blocks : Blocks
-  pub rows : ℕ
-
--- the system that tables, E code and joined schedule say
-abbrev pub system_of : Tables → List ℕ → List ℤ → System
-system_of T code S = record {
-  program = program_of T;
-  code = instructions code;
-  blocks = block_of S;
-  rows = schedule_count S;
-}
-
 -- the step of an advance: E code if no tick of the unit remains, then one tick of the schedules
 abbrev pub ready : Program → List Op → List ℤ → List ℤ → State → Outcome
 ready P code readings times s = elim s.remaining [ zero ↦ run_instant P readings times code s | suc n ↦ ok s ]
 
-abbrev pub step : System → Lent → State → Outcome
-step Y X s = elim (ready Y.program Y.code X.readings X.times s) [
-  | ok u ↦ tick_all Y.program Y.blocks X.results u
-  | stop n ↦ stop n
-]
+abbrev pub step : Program → List Op → List ℤ → Lent → State → Outcome
+step P code S X s = elim (ready P code X.readings X.times s) [ ok u ↦ tick_all P S X.results u | stop n ↦ stop n ]
 
 abbrev pub answer : State → Outcome → Advanced
 answer s (ok u) = record { number = accepted_number; state = u }
@@ -165,6 +145,6 @@ handed a = record { answer = placeless a.number; state = a.state }
 
 unfoldable pub advance_answer : Advance → Handed
 advance_answer L = elim (advance_verdict L) [
-  | zero ↦ handed (answer L.state (step (system_of L.tables L.code L.schedule) L.lent L.state))
+  | zero ↦ handed (answer L.state (step (program_of L.tables) (instructions L.code) L.schedule L.lent L.state))
   | suc n ↦ record { answer = first_refusal advance_refusals L; state = L.state }
 ]

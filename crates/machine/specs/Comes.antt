@@ -5,7 +5,6 @@ use Rattle.std.specs.Prelude.{ℕ, zero, suc, ◌≤◌, ◌<◌, ◌≡◌, fal
 use Rattle.theory.specs.Verdict.{OneOf}
 use Rattle.cells.specs.Refusals.{time_refused, count_refused}
 use Rattle.program.specs.Program.{Program, program_of}
-use Rattle.runs.specs.Schedule.{block_of}
 use Rattle.code.specs.Op.{Op, return, faulty, instructions}
 use Rattle.machine.specs.declared.State.{State}
 use Rattle.machine.specs.declared.At.{At}
@@ -101,8 +100,8 @@ module _ (L : Advance) where
 
   -- 18: two suppliers run in the tick
   abbrev pub Collides : Type 0
-  Collides = (u : State) × BeforeTick u × Collision (block_of L.schedule) u
+  Collides = (u : State) × BeforeTick u × Collision L.schedule u
 
   -- the advance passes: its E part is not refused, and in its tick no two suppliers run
   abbrev pub TickPasses : Type 0
-  TickPasses = (u : State) × BeforeTick u × (Collision (block_of L.schedule) u → ⊥)
+  TickPasses = (u : State) × BeforeTick u × (Collision L.schedule u → ⊥)

@@ -2,7 +2,6 @@
 pub mod Change
 pub mod Instruction
 pub mod Instant
-pub mod Held
 pub mod Schedules
 pub mod Advance
 pub mod Fresh

@@ -7,10 +7,9 @@ use Rattle.program.specs.Program.{Program, program_of, task, driver}
 use Rattle.program.specs.Ports.{value_of}
 use Rattle.rules.specs.Fields.{InRange}
 use Rattle.runs.specs.Tick.{left_of}
-use Rattle.runs.specs.Schedule.{block_of}
 use Rattle.code.specs.Op.{Op, future, faulty, instructions}
 use Rattle.machine.specs.declared.State.{State}
-use Rattle.machine.specs.Schedules.{Blocks, Who, nobody, one, several, running}
+use Rattle.machine.specs.Schedules.{Who, nobody, one, several, running}
 use Rattle.machine.specs.Advance.{Advance}
 
 -- E code does not write port p: it is no sensor, no driver's destination, and no task gives it
@@ -59,7 +58,7 @@ Works P results (one t) s u = Worked P results t s u
 Works P results several s u = ⊥
 
 -- a tick of the schedules that leads from s to u changes only what this says
-pub record Passes (P : Program) (B : Blocks) (results : List ℤ) (s u : State) : Type 0 where
+pub record Passes (P : Program) (S results : List ℤ) (s u : State) : Type 0 where
   pub time : u.time ≡ (s.time + 1) % 2 ^ 32
   pub ports : u.ports ≡ s.ports
   pub pending : u.pending ≡ s.pending
@@ -68,11 +67,11 @@ pub record Passes (P : Program) (B : Blocks) (results : List ℤ) (s u : State) 
   pub remaining : u.remaining ≡ s.remaining - 1
   -- no supplier goes back in its block
   pub positions : (j : ℕ) → j < suppliers → get_or s.positions j 0 ≤ get_or u.positions j 0
-  pub works : Works P results (running B s) s u
+  pub works : Works P results (running S s) s u
 
 -- an accepted advance hands back u: a tick of the unit remained, or an instant begins the next one; then a tick of the schedules
 pub record Advances (L : Advance) (u : State) : Type 0 where
   pub between : State
   pub begun : ((1 ≤ L.state.remaining) × (between ≡ L.state))
       ⊎ ((L.state.remaining ≡ 0) × InstantKeeps (program_of L.tables) L.lent.times (instructions L.code) L.state between)
-  pub passes : Passes (program_of L.tables) (block_of L.schedule) L.lent.results between u
+  pub passes : Passes (program_of L.tables) L.schedule L.lent.results between u

@@ -6,7 +6,8 @@ use Rattle.cells.specs.Limits.{suppliers}
 use Rattle.cells.specs.Refusals.{collision_refused}
 use Rattle.program.specs.Program.{Program, task}
 use Rattle.program.specs.Ports.{value_of, assigned}
-use Rattle.runs.specs.Tick.{Row, left_of, Act, rest, work, left_after, Place, moved, doing, runs_in}
+use Rattle.runs.specs.Tick.{left_of, Act, rest, work, left_after, Place, moved, doing, runs_in}
+use Rattle.runs.specs.Schedule.{block_of}
 use Rattle.machine.specs.declared.State.{State}
 use Rattle.machine.specs.declared.Running.{Running}
 use Rattle.machine.specs.declared.Shares.{Shares}
@@ -31,24 +32,20 @@ abbrev pub who_runs : (ℕ → Act) → ℕ → Who
 who_runs acts zero = nobody
 who_runs acts (suc n) = join (who_runs acts n) (acts n)
 
--- the block of each supplier at each address
-abbrev pub Blocks : Type 0
-Blocks = ℕ → ℕ → List Row
-
-module _ (B : Blocks) (s : State) where
+module _ (S : List ℤ) (s : State) where
   -- supplier j in its block: the rows at the current `future` address
   abbrev pub place_of : ℕ → Place
   place_of j = record { position = get_or s.positions j 0; left = s.left }
 
   abbrev pub act_of : ℕ → Act
-  act_of j = doing (B j s.current) s.elapsed (place_of j)
+  act_of j = doing (block_of S j s.current) s.elapsed (place_of j)
 
   -- supplier j runs in the tick
   abbrev pub runs_now : ℕ → Bool
-  runs_now j = runs_in (B j s.current) s.elapsed (place_of j)
+  runs_now j = runs_in (block_of S j s.current) s.elapsed (place_of j)
 
   abbrev pub moved_of : ℕ → ℕ
-  moved_of j = moved (B j s.current) s.elapsed (place_of j)
+  moved_of j = moved (block_of S j s.current) s.elapsed (place_of j)
 
   abbrev pub running : Who
   running = who_runs act_of suppliers
@@ -68,8 +65,8 @@ told nobody = record { count = 0; job = record { 0 = 0 } }
 told (one t) = record { count = 1; job = record { 0 = t } }
 told several = record { count = 2; job = record { 0 = 0 } }
 
-abbrev pub shares_of : Blocks → State → Shares
-shares_of B s = record { running = told (running B s); positions = each (moved_of B s) suppliers 0 }
+abbrev pub shares_of : List ℤ → State → Shares
+shares_of S s = record { running = told (running S s); positions = each (moved_of S s) suppliers 0 }
 
 -- the local outputs after a tick of task t, which gives these ports and puts its results there where it completes
 abbrev pub outputs_at : List ℕ → List ℤ → State → ℕ → List ℤ
@@ -95,13 +92,13 @@ tick_passed s left outputs positions = record {
   positions = positions;
 }
 
-abbrev pub after_tick : Blocks → State → List ℕ → List ℤ → State
-after_tick B s left outputs = tick_passed s left outputs (each (moved_of B s) suppliers 0)
+abbrev pub after_tick : List ℤ → State → List ℕ → List ℤ → State
+after_tick S s left outputs = tick_passed s left outputs (each (moved_of S s) suppliers 0)
 
-abbrev pub ticked : Program → Blocks → List ℤ → State → Who → Outcome
-ticked P B results s nobody = ok (after_tick B s s.left s.outputs)
-ticked P B results s (one t) = ok (after_tick B s (left_after (work t) s.left) (outputs_after P results s t))
-ticked P B results s several = stop collision_refused
+abbrev pub ticked : Program → List ℤ → List ℤ → State → Who → Outcome
+ticked P S results s nobody = ok (after_tick S s s.left s.outputs)
+ticked P S results s (one t) = ok (after_tick S s (left_after (work t) s.left) (outputs_after P results s t))
+ticked P S results s several = stop collision_refused
 
-abbrev pub tick_all : Program → Blocks → List ℤ → State → Outcome
-tick_all P B results s = ticked P B results s (running B s)
+abbrev pub tick_all : Program → List ℤ → List ℤ → State → Outcome
+tick_all P S results s = ticked P S results s (running S s)

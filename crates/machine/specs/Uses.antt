@@ -6,7 +6,6 @@ use Rattle.cells.specs.Cell.{num_at}
 use Rattle.program.specs.Program.{task}
 use Rattle.program.specs.Ports.{value_of}
 use Rattle.runs.specs.Tick.{left_of}
-use Rattle.runs.specs.Schedule.{block_of}
 use Rattle.code.specs.Op.{Op, call, schedule}
 use Rattle.machine.specs.declared.State.{State}
 use Rattle.machine.specs.declared.At.{At}
@@ -35,7 +34,7 @@ module _ (L : Advance) where
   pub record Completes (t : ℕ) : Type 0 where
     pub before-tick : State
     pub begins : BeforeTick L before-tick
-    pub runs : running (block_of L.schedule) before-tick ≡ one t
+    pub runs : running L.schedule before-tick ≡ one t
     pub last-tick : left_of before-tick.left t ≡ 1
 
 -- the advance L, lent X in place of what it is lent

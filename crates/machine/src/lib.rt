@@ -18,24 +18,6 @@ pub struct State {
     pub positions: [usize; Program::SUPPLIERS],
 }
 
-// What a state has beside its arrays: time stamp, pending address, current `future` address, elapsed and remaining ticks of the unit.
-// Where the arrays are lent, to be changed in place, this goes by value.
-#[derive(Drop)]
-pub struct Clock {
-    pub time: u32,
-    pub pending: usize,
-    pub current: usize,
-    pub elapsed: usize,
-    pub remaining: usize,
-}
-
-// What a part of an advance comes to whose arrays are lent: 0 or the number that stops it, and the clock.
-#[derive(Drop)]
-pub struct Ticked {
-    pub number: usize,
-    pub clock: Clock,
-}
-
 // What an instant or a tick comes to: 0 and the state after it, or the number that stops it and the state as it was.
 #[derive(Drop)]
 pub struct Advanced {

@@ -1,7 +1,7 @@
-// The kinds `long` and `soak`: a system a case, how many ticks, and what is lent to all of them alike; the answer and the state after the
-// last, or at the first refusal, a line.
+// The kind `long`: a system a case, how many ticks, and what is lent to all of them alike; the answer and the state after the last, or
+// at the first refusal, a line.
 use crate::systems::{System, TickSlices};
-use crate::{lines, soak, systems};
+use crate::{lines, systems};
 use cases::out::Outcome;
 use cases::stream::Reader;
 use cases::tables::Lengths;
@@ -10,7 +10,7 @@ use cells::parts::part;
 use cells::refusals;
 use machine::{Handed, State};
 
-// Steps so many ticks of a system that was read, all lent the same, up to the first that is refused. Each judges its tables anew.
+// Steps so many ticks of a system that was read, all lent the same, up to the first that is refused.
 fn ticks(
     n: usize,
     l: Lengths,
@@ -84,31 +84,6 @@ fn read_case(
     Long { system, alike }
 }
 
-// What a case that was read comes to: prepared `once`, or judged in every tick.
-fn stepped(
-    a: Long,
-    room: &[i32],
-    code: &[u32],
-    rows: &[i32],
-    readings: &[i32],
-    results: &[i32],
-    times: &[i32],
-    once: bool,
-) -> Handed {
-    let system = a.system;
-    let l = system.program;
-    let s = system.state;
-    let alike = a.alike;
-    let n = alike.count;
-    let x = alike.slices;
-    let code = systems::kept(code, system.code);
-    let rows = part(rows, 0, system.rows);
-    if once {
-        return soak::ticks(n, l, room, code, rows, s, x, readings, results, times);
-    }
-    ticks(n, l, room, code, rows, s, x, readings, results, times)
-}
-
 // Writes the line of a case that was read; false where it could not be written. A refused reader has no line.
 fn judged(
     a: Long,
@@ -118,7 +93,6 @@ fn judged(
     readings: &[i32],
     results: &[i32],
     times: &[i32],
-    once: bool,
 ) -> bool {
     let alike = a.alike;
     let slices = alike.slices;
@@ -126,11 +100,25 @@ fn judged(
     if !reader.ok {
         return true;
     }
-    lines::line(stepped(a, room, code, rows, readings, results, times, once))
+    let system = a.system;
+    let program = system.program;
+    let state = system.state;
+    lines::line(ticks(
+        alike.count,
+        program,
+        room,
+        systems::kept(code, system.code),
+        part(rows, 0, system.rows),
+        state,
+        slices,
+        readings,
+        results,
+        times,
+    ))
 }
 
-// Answers a case of the kind `soak`, prepared `once`, or of the kind `long`, judged in every tick.
-pub fn case(r: Reader, buffer: &mut [u8], once: bool) -> Outcome {
+// Answers a case of the kind `long`.
+pub fn case(r: Reader, buffer: &mut [u8]) -> Outcome {
     let mut room = [0i32; room::ALL];
     let mut code = [0u32; room::CODE];
     let mut rows = [0i32; room::SCHEDULE];
@@ -147,7 +135,7 @@ pub fn case(r: Reader, buffer: &mut [u8], once: bool) -> Outcome {
         &mut results,
         &mut times,
     );
-    let written = judged(a, &room, &code, &rows, &readings, &results, &times, once);
+    let written = judged(a, &room, &code, &rows, &readings, &results, &times);
     let alike = a.alike;
     let slices = alike.slices;
     let reader = slices.reader;

@@ -1,4 +1,3 @@
 -- What holds of an advance's number and answer, and of a fresh state's.
 pub mod Numbers
-pub mod Sections
-pub mod Prepared
+pub mod Answers

@@ -6,7 +6,6 @@ use mathlib.Core.Path.{◌≡◌, sym, ap, ◌∙◌}
 use mathlib.Core.Bool.{Bool, true, false, cond}
 use mathlib.Core.List.{List, [], ◌∷◌, ◌++◌, map}
 use native.Mathlib.Omega.{arith}
-use borrow.Author.Tests.{ltb-false}
 use lib.ListN.{length}
 use Rattle.theory.specs.Rows.{placeless}
 use Rattle.theory.specs.Verdict.{accepted_number, Refusal, unplaced, within, first_refusal, rows_answer, or_next}
@@ -16,21 +15,16 @@ use Rattle.theory.proofs.Verdict.{next-given, next-none, answer-append, verdict-
 use Rattle.cells.specs.Limits.{max_code, words_each}
 use Rattle.cells.specs.Refusals.{shape_refused, schedule_refused, state_refused}
 use Rattle.rules.specs.Shape.{shape_bad}
-use Rattle.rules.specs.Verdict.{table_refusals, program_verdict}
+use Rattle.rules.specs.Verdict.{table_refusals}
 use Rattle.rules.proofs.Shape.{shape-bars, whole-few}
-use Rattle.rules.proofs.Accepted.{lent-accepted}
-use Rattle.code.specs.Compile.{listing_of, code_long, CodeFits, long_refusal}
+use Rattle.code.specs.Compile.{long_refusal}
 use Rattle.verdict_2_11.specs.Tables.{tables_and_code_answer}
 use Rattle.verdict_2_11.proofs.Asked.{call-answer}
-use Rattle.suppliers.specs.Schedule.{joined_tests, joined_bad}
+use Rattle.suppliers.specs.Schedule.{joined_tests, joined_bad, Rows}
 use Rattle.suppliers.proofs.Schedule.{joined-bars}
 use Rattle.machine.specs.Advance.{Advance, advance_shape_bad, state_bad, StateFits, joined_refusal, run_refusals, advance_refusals, advance_verdict}
 use Rattle.machine.proofs.Fits.{advance-shape-bars, state-bars}
-use Rattle.image.specs.Prepared.{Preparing, prepare_shape_bad}
-use Rattle.image.specs.Prepared.{joined_refusal as prepared_joined}
-use Rattle.prepared.specs.Sound.{SoundTables, SoundRows}
-use Rattle.prepared.proofs.Accepted.{shape-bars-all, tables-sound, rows-sound}
-use Rattle.operation.specs.Advancing.{judged_answer, asked_first}
+use Rattle.operation.specs.Advancing.{judged_answer}
 
 -- the answer of 21 by itself
 abbrev pub state_answer : Advance → Answer
@@ -103,60 +97,10 @@ module _ (L : Advance) (e : advance_verdict L ≡ accepted_number) where
   own-clear =
       let c = verdict-clear run_refusals L (omega arith) (verdict-both before run_refusals L (omega arith) e).1 in (c.0, c.1.0)
 
-  -- of an advance that runs, the program is accepted, and its code within the limit
-  runs-accepted : program_verdict L.tables ≡ accepted_number
-  unfolding advance_verdict
-  runs-accepted =
-      lent-accepted (λ (L : Advance). L.tables) advance_shape_bad (within (λ (L : Advance). L.tables) long_refusal ∷ run_refusals) L (advance-shaped L) e
-
-  runs-fits : CodeFits L.tables
-  unfolding advance_verdict code_long
-  runs-fits =
-      ltb-false max_code (length (listing_of L.tables))
-      (verdict-clear before L (omega arith) (verdict-both before run_refusals L (omega arith) e).0).1.1.1.1.1.1.1.1.1.1.1.0
-
-  -- so tables and rows have what laying them out asks
-  pub runs-tables : SoundTables L.tables
-  runs-tables = tables-sound L.tables runs-accepted
-
-  pub runs-rows : SoundRows L.schedule
-  runs-rows =
-      rows-sound L.tables L.schedule runs-fits ((advance-shape-bars L).ok in-shape).schedule
-      ((joined-bars L.tables L.schedule).ok own-clear.0).rows
+  -- of an advance that runs, the schedule's rows are right
+  pub runs-rows : Rows L.tables L.schedule
+  runs-rows = ((joined-bars L.tables L.schedule).ok own-clear.0).rows
 
   -- of an advance that runs, the state is within its limits
   pub runs-state : StateFits L
   runs-state = (state-bars L).ok own-clear.1
-
--- a preparation asks 1, what every call asks of the tables, then 13
-first-order : (L : Preparing)
-    → first_refusal asked_first L
-    ≡ cond (prepare_shape_bad L) (placeless shape_refused)
-    (or_next (tables_and_code_answer L.tables) (rows_answer schedule_refused (joined_tests L.tables L.schedule)))
-unfolding joined_bad
-first-order L =
-    ap (cond (prepare_shape_bad L) (placeless shape_refused)) (call-answer (λ (L : Preparing). L.tables) (prepared_joined ∷ []) L)
-
-module _ (L : Preparing) where
-  pub first_one : prepare_shape_bad L ≡ true → first_refusal asked_first L ≡ placeless shape_refused
-  first_one e =
-      first-order L
-      ∙ (λ i. cond (e i) (placeless shape_refused)
-      (or_next (tables_and_code_answer L.tables) (rows_answer schedule_refused (joined_tests L.tables L.schedule))))
-
-  pub prepare-shaped : prepare_shape_bad L ≡ false → shape_bad L.tables ≡ false
-  prepare-shaped e = (bars-iff (shape-bars L.tables)).1 ((shape-bars-all L).ok e).tables
-
-  module _ (s : prepare_shape_bad L ≡ false) (x : Answer) (e : x ≡ tables_and_code_answer L.tables) where
-    first_next : first_refusal asked_first L ≡ or_next x (rows_answer schedule_refused (joined_tests L.tables L.schedule))
-    first_next =
-        first-order L
-        ∙ (λ i. cond (s i) (placeless shape_refused)
-        (or_next (sym e i) (rows_answer schedule_refused (joined_tests L.tables L.schedule))))
-
-    pub first-given : accepted_number < x.number → first_refusal asked_first L ≡ x
-    first-given l =
-        first_next ∙ next-given x (rows_answer schedule_refused (joined_tests L.tables L.schedule)) (λ z. omega (arith, z, l))
-
-    pub first-own : x.number ≡ accepted_number → first_refusal asked_first L ≡ rows_answer schedule_refused (joined_tests L.tables L.schedule)
-    first-own z = first_next ∙ next-none x (rows_answer schedule_refused (joined_tests L.tables L.schedule)) z

@@ -1,21 +1,20 @@
-// The calls on the machine: a fresh state, an advance of one tick, and a preparation for many. A refusal hands state and slice back as they
-// were.
-ghost use Rattle.std.specs.Prelude.{◌≡◌};
+// The calls on the machine: a fresh state, and an advance of one tick. A refusal hands the state back as it was.
+ghost use Rattle.std.specs.Prelude.{◌≡◌, ◌<◌, ◌≤◌, ◌/◌, ℤ, length};
+ghost use Rattle.cells.specs.Limits.{words_each, max_code, max_elapsed};
 ghost use Rattle.program.specs.Tables.{tables_in};
-ghost use Rattle.machine.specs.Advance.{state_of, fresh_answer, advance_answer};
-ghost use Rattle.image.specs.Prepared.{prepare_answer};
-ghost use Rattle.operation.specs.Advancing.{lent_of, advancing, preparing, stored_in};
+ghost use Rattle.program.specs.Program.{program_of};
+ghost use Rattle.rules.specs.Shape.{InShape};
+ghost use Rattle.code.specs.Op.{instructions};
+ghost use Rattle.suppliers.specs.Schedule.{Rows};
+ghost use Rattle.machine.specs.Advance.{state_of, ready, step, answer, handed, fresh_answer, advance_answer};
+ghost use Rattle.operation.specs.Advancing.{lent_of, advancing};
 
 use cells::limits::Program;
 use cells::{refusals, tables};
-use machine::{Handed, State};
-use theory::Answer;
-use ticking::values;
+use machine::{Advanced, Handed, State};
+use ticking::{schedules, values};
 
-mod by_tables;
-mod held;
 mod judged;
-mod preparation;
 
 // A state with these values in its ports and local outputs, and 0 elsewhere.
 fn begun(values: [i32; Program::PORTS]) -> State
@@ -52,6 +51,70 @@ pub fn fresh(tables: &[&[i32]; Program::TABLES], program: Program) -> Handed
     }
 }
 
+// The E part of an advance: the E code runs if no tick of the unit remains.
+fn ready(
+    tables: &[&[i32]; Program::TABLES],
+    code: &[u32],
+    readings: &[i32],
+    times: &[i32],
+    s: State,
+) -> Advanced
+    requires { InShape tables.now }
+    ensures { (start : ℤ) → let P = program_of (tables_in tables.now start) in
+        result ≡ answer s (ready P (instructions code.now) readings.now times.now s) }
+{
+    if 0 < s.remaining {
+        return Advanced {
+            number: refusals::ACCEPTED,
+            state: s,
+        };
+    }
+    instants::instant(tables, code, readings, times, s)
+}
+
+// The step of an advance: the E code if no tick of the unit remains, then one tick of the schedules.
+fn step(
+    tables: &[&[i32]; Program::TABLES],
+    code: &[u32],
+    schedule: &[i32],
+    s: State,
+    readings: &[i32],
+    results: &[i32],
+    times: &[i32],
+) -> Handed
+    requires in_shape { InShape tables.now }
+    requires words_each_len_bound { length code.now / words_each ≤ max_code }
+    requires current_in_bounds { s.current < length code.now / words_each }
+    requires elapsed_le_max_elapsed { s.elapsed ≤ max_elapsed }
+    ensures { (start : ℤ) → let X = lent_of readings.now results.now times.now in
+        let T = tables_in tables.now start in
+        Rows T schedule.now
+        → result ≡ handed (answer s (step (program_of T) (instructions code.now) schedule.now X s)) }
+{
+    let begun = ready(tables, code, readings, times, s);
+    if refusals::ACCEPTED < begun.number {
+        return Handed {
+            answer: answers::refused(begun.number),
+            state: s,
+        };
+    }
+    let before = begun.state;
+    let ports = tables[tables::PORTS];
+    let task_ports = tables[tables::TASK_PORTS];
+    let after = schedules::tick_all(ports, task_ports, schedule, results, before);
+    if refusals::ACCEPTED < after.number {
+        return Handed {
+            answer: answers::refused(after.number),
+            state: s,
+        };
+    }
+    let state = after.state;
+    Handed {
+        answer: answers::accepted(),
+        state,
+    }
+}
+
 // An advance of the machine by one tick. Any slices, any words and any state at all may be lent.
 pub fn advance(
     tables: &[&[i32]; Program::TABLES],
@@ -71,42 +134,5 @@ pub fn advance(
     if refusals::ACCEPTED < answer.number {
         return Handed { answer, state: s };
     }
-    by_tables::step(tables, code, schedule, s, readings, results, times)
-}
-
-// What a preparation answers: number and place, and how many words the image has, 0 where it is refused.
-#[derive(Drop)]
-pub struct Stored {
-    pub answer: Answer,
-    pub length: usize,
-}
-
-// The image of a program, its E code and its joined schedule, judged once and written at the front of a lent slice, for advances without
-// further judging. Any slices, any words and any length at all may be lent.
-pub fn prepare(
-    tables: &[&[i32]; Program::TABLES],
-    program: Program,
-    code: &[u32],
-    schedule: &[i32],
-    image: &mut [u32],
-) -> Stored
-    ensures { stored_in result image.new ≡ prepare_answer (preparing (tables_in tables.now program.start)
-        code.now schedule.now image.old) }
-{
-    let answer = judged::prepared(tables, program, code, schedule);
-    if refusals::ACCEPTED < answer.number {
-        return Stored { answer, length: 0 };
-    }
-    let length = preparation::length(code, schedule);
-    if image.len() < length {
-        return Stored {
-            answer: answers::refused(refusals::IMAGE),
-            length: 0,
-        };
-    }
-    preparation::write(tables, code, schedule, image);
-    Stored {
-        answer: answers::accepted(),
-        length,
-    }
+    step(tables, code, schedule, s, readings, results, times)
 }

@@ -219,8 +219,3 @@ block-found S s a from o l h =
     go k u =
         let z : 0 + k ≡ k = omega arith in
         ap (row_of (span_of S (found S from s a))) z ∙ part-row S (found S from s a) k u
-
--- on a sorted schedule the block is so many rows of the schedule from the first one found on
-pub block-each : (S : List ℤ) (s a : ℕ) → Sorted S
-    → block_of S s a ≡ each (row_of S) ((found S 0 s a).end - (found S 0 s a).begin) (found S 0 s a).begin
-block-each S s a o = block-is S s a 0 o (omega arith) (behind-none S s a)

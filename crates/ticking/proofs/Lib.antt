@@ -1,10 +1,8 @@
 -- What the code of a tick comes to.
 pub mod Ends
-pub mod Tested
-pub mod Above
+pub mod Rowwise
+pub mod Assigned
 pub mod Joining
-pub mod Rows
 pub mod Walking
-pub mod Given
-pub mod Ran
+pub mod Completed
 pub mod Ticking

@@ -1,3 +1,3 @@
--- How the code joins the turns of a tick, and what a tick leaves of outputs and clock.
+-- Port values row by row, and how the code joins the turns of a tick.
+pub mod Values
 pub mod Joined
-pub mod Ran

@@ -1,6 +1,4 @@
-// One tick of all schedules on the words of an image, its arrays changed in place; whether a state is in its range; first port values.
-mod completion;
+// One tick of all schedules as code; what becomes of port values; whether a state is in its range.
 pub mod range;
 pub mod schedules;
-mod turn;
 pub mod values;

@@ -1,30 +1,22 @@
-// One tick of all suppliers' schedules: who runs, number 18, and the state after the tick, whose arrays change in place.
-ghost use Rattle.std.specs.Prelude.{◌≡◌, ◌-◌, ◌<◌, ◌≤◌, List, ℤ};
-ghost use Rattle.cells.specs.Cell.{word_at};
-ghost use Rattle.cells.specs.Limits.{suppliers, max_elapsed};
-ghost use Rattle.machine.specs.declared.State.{State};
-ghost use Rattle.machine.specs.Schedules.{shares_of, tick_all};
-ghost use Rattle.machine.specs.Held.{state_in, advanced_in};
+// One tick of all suppliers' schedules: who runs, number 18, and the state after the tick.
+ghost use Rattle.std.specs.Prelude.{◌≡◌, ◌≤◌};
+ghost use Rattle.cells.specs.Cell.{greatest_word};
+ghost use Rattle.cells.specs.Limits.{max_elapsed};
+ghost use Rattle.program.specs.Tables.{Tables};
+ghost use Rattle.program.specs.Program.{program_of};
+ghost use Rattle.runs.specs.Schedule.{Sorted};
+ghost use Rattle.suppliers.specs.Schedule.{Rows};
+ghost use Rattle.machine.specs.Schedules.{shares_of, tick_passed, tick_all};
+ghost use Rattle.ticking.specs.Joined.{join_told, outputs_by};
 ghost use Rattle.machine.specs.Advance.{answer};
-ghost use Rattle.image.specs.Parts.{program_in};
-ghost use Rattle.image.specs.Blocks.{block_part, block_in};
-ghost use Rattle.ticking.specs.Joined.{join_told};
-ghost use Rattle.ticking.specs.Ran.{clock_after};
 
-use crate::{completion, turn};
+use crate::values;
 use cells::kinds::Task;
 use cells::limits::Program;
-use cells::{refusals, table};
-use image::words;
-use machine::{Clock, Running, Ticked};
+use cells::{refusals, tasks};
+use machine::{Advanced, Running, Shares, State};
 use runs::turn::Turn;
-
-// The words of a record: how many suppliers it speaks of, then for each its first row and how many it has.
-const COUNT: usize = 0;
-
-const SPANS: usize = 1;
-
-const SPAN: usize = 2;
+use runs::{block, turn};
 
 // Who runs in a tick, of the suppliers before and the one that has turn t.
 fn join(before: Running, t: Turn) -> Running
@@ -43,113 +35,109 @@ fn join(before: Running, t: Turn) -> Running
     }
 }
 
-// The word at a place of a record as it stands, so that its size is known; past the end stands 0.
-fn number(spans: &[u32], at: usize) -> u32
-    ensures { result ≡ word_at spans.now at }
+// Who runs in a tick and the positions after it: each supplier has its turn on its block, sought behind the one before.
+fn turns(rows: &[i32], s: State) -> Shares
+    requires { s.current ≤ greatest_word }
+    ensures { Sorted rows.now → result ≡ shares_of rows.now s }
 {
-    if at < spans.len() {
-        return spans[at];
-    }
-    0
-}
-
-// The rows of supplier j, of which the record says where they begin and how many they are.
-fn block<'a, 'b>(spans: &'a [u32], rows: &'b [u32], j: usize) -> &'b [u32]
-    requires { j < suppliers }
-    ensures { result.now ≡ block_part spans.now rows.now j }
-{
-    let at = SPANS + j * SPAN;
-    let first = number(spans, at) as usize;
-    let count = number(spans, at + 1) as usize;
-    words::part(rows, first * turn::WORDS, count * turn::WORDS)
-}
-
-// Who runs in a tick; the positions are changed in place: each supplier that the record speaks of has its turn on its block. (The proof has
-// from the copy how many positions there are.)
-fn turns(
-    spans: &[u32],
-    rows: &[u32],
-    elapsed: usize,
-    left: &[usize],
-    from: [usize; Program::SUPPLIERS],
-    positions: &mut [usize; Program::SUPPLIERS],
-) -> Running
-    requires { from ≡ positions.old }
-    ensures { (s : State) → s.elapsed ≡ elapsed → s.left ≡ left.now → s.positions ≡ positions.old
-        → record { running = result; positions = positions.new } ≡ shares_of (λ j a. block_in spans.now rows.now
-        j) s }
-{
-    let n = words::up_to(Program::SUPPLIERS, table::word(spans, COUNT));
+    let left = s.left;
+    let mut positions = s.positions;
     let mut running = Running {
         count: 0,
         job: Task::of(0),
     };
+    let mut from = 0;
     let mut j = 0;
-    while j < n {
-        let turn = turn::tick(block(spans, rows, j), elapsed, left, positions[j]);
+    while j < Program::SUPPLIERS {
+        let at = block::find(rows, from, j, s.current);
+        let turn = turn::tick(block::rows_at(rows, at), s.elapsed, left, positions[j]);
         running = join(running, turn);
         positions[j] = turn.position;
+        from = at.end;
         j += 1;
     }
-    running
+    Shares { running, positions }
 }
 
-// One less; 0 stays.
-fn less(n: usize) -> usize
-    ensures { result ≡ n - 1 }
-{
-    if 0 < n {
-        return n - 1;
-    }
-    0
-}
-
-// The clock after a tick; after the last time stamp comes 0. It is made field by field: a record that is copied whole is copied with the
-// gaps between its fields, and then the back end keeps none of it in registers.
-fn passed(c: Clock) -> Clock
-    requires { c.elapsed ≤ max_elapsed }
-    ensures { result ≡ clock_after c }
-{
-    Clock {
-        time: std::num::wrapping_add_u32(c.time, 1),
-        pending: c.pending,
-        current: c.current,
-        elapsed: c.elapsed + 1,
-        remaining: less(c.remaining),
-    }
-}
-
-// One tick of all suppliers: number 18 if two run, and then nothing changes; or the clock after the tick, the arrays as it leaves them.
-pub fn tick(
-    parts: &[u32],
-    spans: &[u32],
-    rows: &[u32],
+// The local outputs after a tick of task t, which take its results where it completes.
+fn outputs_after(
+    ports: &[i32],
+    task_ports: &[i32],
     results: &[i32],
-    outputs: &mut [i32; Program::PORTS],
-    left: &mut [usize; Program::TASKS],
-    positions: &mut [usize; Program::SUPPLIERS],
-    c: Clock,
-) -> Ticked
-    requires { c.elapsed ≤ max_elapsed }
-    ensures { (v : List ℤ) → let s = state_in v outputs.old c left.old positions.old in
-        advanced_in result.number (state_in v outputs.new result.clock left.new positions.new)
-        ≡ answer s (tick_all (program_in parts.now) (λ j a. block_in spans.now rows.now j)
-        results.now s) }
+    s: State,
+    t: Task,
+) -> [i32; Program::PORTS]
+    ensures { (T : Tables) → T.ports ≡ ports.now → T.task_ports ≡ task_ports.now
+        → result ≡ outputs_by T results.now s t.0 }
 {
-    let old = *positions;
-    let running = turns(spans, rows, c.elapsed, left, old, positions);
+    let left = s.left;
+    let outputs = s.outputs;
+    if tasks::left(&left, t) == 1 {
+        return values::gives_taken(ports, task_ports, t, results, outputs);
+    }
+    outputs
+}
+
+// The state after a tick that leaves these remaining times, outputs and positions; after the last time stamp comes 0.
+fn tick_passed(
+    s: State,
+    left: [usize; Program::TASKS],
+    outputs: [i32; Program::PORTS],
+    positions: [usize; Program::SUPPLIERS],
+) -> State
+    requires { s.elapsed ≤ max_elapsed }
+    ensures { result ≡ tick_passed s left outputs positions }
+{
+    let mut next = s;
+    next.outputs = outputs;
+    next.time = std::num::wrapping_add_u32(s.time, 1);
+    next.elapsed = s.elapsed + 1;
+    if 0 < s.remaining {
+        next.remaining = s.remaining - 1;
+    }
+    next.left = left;
+    next.positions = positions;
+    next
+}
+
+// One tick of all suppliers: number 18 if two run, or the state after the tick.
+pub fn tick_all(
+    ports: &[i32],
+    task_ports: &[i32],
+    rows: &[i32],
+    results: &[i32],
+    s: State,
+) -> Advanced
+    requires current_le_greatest_word { s.current ≤ greatest_word }
+    requires elapsed_le_max_elapsed { s.elapsed ≤ max_elapsed }
+    ensures { (T : Tables) → T.ports ≡ ports.now → T.task_ports ≡ task_ports.now
+        → Rows T rows.now → result ≡ answer s (tick_all (program_of T) rows.now results.now s) }
+{
+    let all = turns(rows, s);
+    let running = all.running;
     if 1 < running.count {
-        *positions = old;
-        return Ticked {
+        return Advanced {
             number: refusals::COLLISION,
-            clock: c,
+            state: s,
         };
     }
-    if running.count == 1 {
-        completion::run(parts, results, running.job, outputs, left);
+    let job = running.job;
+    let runs = running.count == 1;
+    let mut outputs = s.outputs;
+    if runs {
+        let next = outputs_after(ports, task_ports, results, s, job);
+        outputs = next;
     }
-    Ticked {
+    let turn = Turn {
+        position: 0,
+        runs,
+        job,
+    };
+    let before = s.left;
+    let left = turn::after(turn, before);
+    let positions = all.positions;
+    Advanced {
         number: refusals::ACCEPTED,
-        clock: passed(c),
+        state: tick_passed(s, left, outputs, positions),
     }
 }

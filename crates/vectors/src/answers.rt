@@ -30,10 +30,7 @@ fn case(kind: &[u8], r: Reader, buffer: &mut [u8]) -> Outcome {
         return advance::case(r, buffer, true);
     }
     if check::same(kind, b"long") {
-        return long::case(r, buffer, false);
-    }
-    if check::same(kind, b"soak") {
-        return long::case(r, buffer, true);
+        return long::case(r, buffer);
     }
     Outcome {
         reader: r,

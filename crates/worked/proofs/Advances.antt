@@ -7,7 +7,6 @@ use Rattle.theory.specs.Rows.{placeless}
 use Rattle.theory.specs.Verdict.{Keep}
 use Rattle.cells.specs.Limits.{words_each}
 use Rattle.program.specs.Tables.{task_count}
-use Rattle.runs.specs.Schedule.{block_of}
 use Rattle.suppliers.specs.Schedule.{joined_bad}
 use Rattle.suppliers.proofs.Schedule.{joined-bars}
 use Rattle.machine.specs.declared.State.{State}
@@ -52,7 +51,7 @@ rows_right : joined_bad (program_f 6 2) (joined F-system) ≡ false
 unfolding computed
 rows_right = refl
 
-one-runs : running (block_of (joined F-system)) (advance_answer F-first).state ≡ one 1
+one-runs : running (joined F-system) (advance_answer F-first).state ≡ one 1
 unfolding computed
 one-runs = refl
 

@@ -7,7 +7,6 @@ use native.Mathlib.Omega.{arith}
 use lib.IntN.{pos}
 use Rattle.program.specs.Program.{Program, program_of}
 use Rattle.program.specs.Ports.{value_of}
-use Rattle.runs.specs.Schedule.{block_of}
 use Rattle.suppliers.proofs.Accepted.{windows-accepted}
 use Rattle.giotto.specs.Execution.{execution}
 use Rattle.machine.specs.declared.State.{State}
@@ -82,7 +81,7 @@ abbrev left : Outcome → State
 left (ok u) = u
 left (stop n) = state_of monitor-program.first
 
-one-runs : runs_now (block_of (joined monitor-system)) (left (ready_at monitor-system monitor-lent 4)) 1 ≡ true
+one-runs : runs_now (joined monitor-system) (left (ready_at monitor-system monitor-lent 4)) 1 ≡ true
 unfolding computed
 one-runs = refl
 
@@ -90,7 +89,7 @@ pub monitor-kept : TickInWindow monitor-system mix monitor-lent 4 1
 monitor-kept =
     let w = windows-kept monitor-system monitor-accepted mix monitor-lent 4 (λ k l. suited k) in
     let (u, e) = w.0 in
-    w.1 u e 1 (omega arith) (subst (λ (u : State). runs_now (block_of (joined monitor-system)) u 1 ≡ true) (ap left e) one-runs)
+    w.1 u e 1 (omega arith) (subst (λ (u : State). runs_now (joined monitor-system) u 1 ≡ true) (ap left e) one-runs)
 
 -- tick 4 of the monitor has its place at the first tick of unit 0
 place : InRound monitor-program 4 (configuration_at monitor-system mix monitor-lent 5) 0 0

@@ -23,5 +23,3 @@ pub mod Response
 pub mod Relay
 pub mod Filters
 pub mod Private
-pub mod Image
-pub mod Prepared

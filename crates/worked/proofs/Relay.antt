@@ -123,7 +123,7 @@ module _ (F : Function) (releases : Releases F) (lents : ℕ → Lent) (suited :
       record {
         tick = found.tick;
         not-before = b.next found.tick found.not-before found.instant;
-        in-time = omega (arith, found.in-time, b.up-to);
+        in-time = omega (arith, found.in-time, b.up_to);
         instant = found.instant;
         released = found.released;
       }
@@ -132,7 +132,7 @@ module _ (F : Function) (releases : Releases F) (lents : ℕ → Lent) (suited :
       b = last-instant insulation keep F given r
 
       found : RelayReleased F lents (suc b.tick) (b.tick + 30)
-      found = relay-released b.tick b.instant (λ k x y z. missing k (b.next k x z) (omega (arith, y, b.up-to)) z)
+      found = relay-released b.tick b.instant (λ k x y z. missing k (b.next k x z) (omega (arith, y, b.up_to)) z)
   relay-since zero l missing = absurd (omega (arith, l))
 
 -- With what the tasks of the monitor compute, and the resistance lost after the instant at tick 80: every tick is right, the relay is held

@@ -6,7 +6,6 @@ use Rattle.cells.specs.Limits.{words_each}
 use Rattle.readings.specs.Reading.{no_reading}
 use Rattle.program.specs.Tables.{Tables, tables, sensor, actuator, input, output, private}
 use Rattle.program.specs.Program.{program_of}
-use Rattle.runs.specs.Schedule.{block_of}
 use Rattle.suppliers.specs.Supplier.{Asked}
 use Rattle.code.specs.Op.{instructions}
 use Rattle.giotto.specs.Instant.{Configuration, Function}
@@ -147,7 +146,7 @@ runs_as_giotto Y F rs ts k = agrees Y F rs ts k 0 (fresh_answer Y.tables).state 
 
 -- who runs in the tick after its E part came to this
 abbrev pub running_in : System → Outcome → Who
-running_in Y (ok u) = running (block_of (joined Y)) u
+running_in Y (ok u) = running (joined Y) u
 running_in Y (stop n) = nobody
 
 -- who runs in each of k ticks from tick n on, the machine in state s

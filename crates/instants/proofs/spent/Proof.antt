@@ -4,10 +4,10 @@ use Rattle.instants.proofs.spent.Statement.{statement}
 use Rattle.instants.proofs.spent.Tie as tie
 
 returns : tie.Need-returns
-returns c s = spent-inside _ _ s c.if1.true
+returns c = spent-inside _ _ _ c.if1.true
 
 returns-2 : tie.Need-returns-2
-returns-2 c s = spent-outside _ _ s c.if1.false
+returns-2 c = spent-outside _ _ _ c.if1.false
 
 pub spent-spec : {M : Type 1} → statement M
 spent-spec = tie.close (tie.spec returns returns-2)

@@ -9,7 +9,7 @@ use Rattle.machine.specs.Advance.{Advance, advance_verdict}
 use Rattle.machine.proofs.Answered.{judged-number, advance-refused, advance-steps}
 use Rattle.rules.proofs.Shape.{any-start}
 use Rattle.operation.specs.Advancing.{lent_of, advancing, judged_answer}
-use Rattle.operation.proofs.Numbers.{runs-shaped, runs-few, runs-tables, runs-rows, runs-state}
+use Rattle.operation.proofs.Numbers.{runs-shaped, runs-few, runs-rows, runs-state}
 use Rattle.operation.proofs.advance.Statement.{statement}
 use Rattle.operation.proofs.advance.Tie as tie
 
@@ -42,15 +42,13 @@ step-requires : tie.Need-step-requires
 step-requires c κs =
     let s = c.before.before.before.before in
     let L = asked s in
-    let f = runs-state L (none c) in (
-      any-start s.args.tables.now s.args.program.start (runs-shaped L (none c)),
-      (runs-rows L (none c), (runs-few L (none c), (f.current, f.elapsed))),
-    )
+    let f = runs-state L (none c) in
+    (any-start s.args.tables.now s.args.program.start (runs-shaped L (none c)), (runs-few L (none c), (f.current, f.elapsed)))
 
 returns-2 : tie.Need-returns-2
 returns-2 c =
     let L = asked c.before.before.before.before.before in
-    c.step.ensures L.tables.start (runs-tables L (none c.before)) ∙ advance-steps L (none c.before)
+    c.step.ensures L.tables.start (runs-rows L (none c.before)) ∙ advance-steps L (none c.before)
 
 pub advance-spec : {M : Type 1} → statement M
 advance-spec = tie.close (tie.spec answer-requires returns step-requires returns-2)

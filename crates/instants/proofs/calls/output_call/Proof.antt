@@ -1,66 +1,60 @@
 -- `instants::calls::output_call` meets its contract: a task that is declared is named by its number.
-use mathlib.Core.List.{List}
-use Prim.Native.Nat.{ℕ}
-use Rattle.machine.specs.declared.Clock.{Clock}
-use Rattle.machine.specs.declared.State.{State}
-use Rattle.machine.specs.Held.{state_in}
-use Rattle.instants.proofs.Answered.{output-nothing, output-running, output-done}
 use borrow.Author.Rules.{rules}
+use Rattle.instants.proofs.Answered.{output-nothing, output-running, output-done}
 use Rattle.instants.proofs.calls.output_call.Statement.{statement}
 use Rattle.instants.proofs.calls.output_call.Tie as tie
-
-abbrev start : tie.After-task-declared → tie.Start
-start c = c.before.before.before.before
-
--- the state that has what is lent, with a clock and positions
-abbrev state : tie.After-task-declared → Clock → List ℕ → State
-state c clock positions =
-    let a = (start c).args in state_in a.ports.now a.outputs.now clock a.left.now positions
 
 of-requires : tie.Need-of-requires
 of-requires c κs = search rules
 
-task-declared-requires : tie.Need-task-declared-requires
-task-declared-requires c κs = search rules
+declared-requires : tie.Need-declared-requires
+declared-requires c κs = search rules
 
 returns : tie.Need-returns
-returns c readings times clock positions =
+returns c T p e o readings times =
     let own = c.before in
-    let a = (start own).args in
-    output-nothing a.parts.now readings times (state own clock positions) a.t _ _ own.before.of.ensures
-    own.task-declared.ensures c.if1.true
+    let s = own.before.before in
+    output-nothing T readings times s.args.s _ _ _ e s.requires own.before.of.ensures own.declared.ensures c.if1.true
+
+slice-aggregate-left : tie.Need-slice-aggregate-left
+slice-aggregate-left c = search rules
 
 left-requires : tie.Need-left-requires
 left-requires c κs = search rules
 
 returns-2 : tie.Need-returns-2
-returns-2 c readings times clock positions =
-    let test = c.before.before in
+returns-2 c T p e o readings times =
+    let test = c.before.before.before.before in
     let own = test.before in
-    let a = (start own).args in
-    output-running a.parts.now readings times (state own clock positions) a.t _ _ own.before.of.ensures
-    own.task-declared.ensures test.if1.false _ c.before.left.ensures c.if2.true
+    let s = own.before.before in
+    output-running T readings times s.args.s _ _ _ e s.requires own.before.of.ensures own.declared.ensures test.if1.false
+    _ c.before.left3.ensures c.if2.true
 
-give-requires : tie.Need-give-requires
-give-requires c κs = search rules
+slice-aggregate-gives-taken : tie.Need-slice-aggregate-gives-taken
+slice-aggregate-gives-taken c = search rules
+
+gives-taken-requires : tie.Need-gives-taken-requires
+gives-taken-requires c κs = search rules
 
 returns-3 : tie.Need-returns-3
-returns-3 c readings times clock positions =
-    let ended = c.before.before in
-    let test = ended.before.before in
+returns-3 c T p e o readings times =
+    let ended = c.before.before.before.before in
+    let test = ended.before.before.before.before in
     let own = test.before in
-    let a = (start own).args in
-    output-done a.parts.now readings times (state own clock positions) a.t _ _ own.before.of.ensures
-    own.task-declared.ensures test.if1.false _ ended.before.left.ensures _ ended.if2.false c.give.ensures
+    let s = own.before.before in
+    output-done T readings times s.args.s _ _ _ e s.requires own.before.of.ensures own.declared.ensures test.if1.false
+    _ _ ended.before.left3.ensures ended.if2.false (c.gives-taken.ensures T p o)
 
 pub output-call-spec : {M : Type 1} → statement M
 output-call-spec =
     tie.close
     (tie.spec
     of-requires
-    task-declared-requires
+    declared-requires
     returns
+    slice-aggregate-left
     left-requires
     returns-2
-    give-requires
+    slice-aggregate-gives-taken
+    gives-taken-requires
     returns-3)

@@ -1,29 +1,18 @@
 -- `instants::instructions::call` meets its contract: it comes to what its call answers.
 use mathlib.Core.Path.{◌∙◌}
-use Prim.Native.Nat.{ℕ}
-use mathlib.Core.List.{List}
-use Rattle.machine.specs.declared.At.{At}
-use Rattle.image.specs.Parts.{program_in}
-use Rattle.instants.specs.Step.{at_in}
-use Rattle.instants.proofs.Steps.{came}
-use Rattle.instants.proofs.Executed.{call-faulty, call-refused, call-moved}
 use borrow.Author.Rules.{rules}
+use Rattle.instants.proofs.Declared.{program_in}
+use Rattle.instants.proofs.Executed.{call-faulty, call-refused, call-moved}
 use Rattle.instants.proofs.instructions.call.Statement.{statement}
 use Rattle.instants.proofs.instructions.call.Tie as tie
-
--- the machine that has what is lent, with positions
-abbrev machine : tie.Start → List ℕ → At
-machine s positions = at_in s.args.ports.now s.args.outputs.now s.args.going s.args.left.now positions
 
 refused-requires : tie.Need-refused-requires
 refused-requires c κs = search rules
 
 returns : tie.Need-returns
-returns c times count positions =
-    let s = c.before.before.before.before in
-    came c.refused.ensures
-    ∙ call-faulty (program_in s.args.parts.now) s.args.readings.now times count (machine s positions)
-    s.args.n s.args.unused c.before.if1.true
+returns c start times count =
+    let s = c.before.before.args in
+    c.refused.ensures ∙ call-faulty (program_in s.tables.now start) s.readings.now times count s.at s.n s.unused c.before.if1.true
 
 call-requires : tie.Need-call-requires
 call-requires c κs = search rules
@@ -32,31 +21,23 @@ refused-requires-2 : tie.Need-refused-requires-2
 refused-requires-2 c κs = search rules
 
 returns-2 : tie.Need-returns-2
-returns-2 c times count positions =
-    let called = c.before.before in
-    let test = called.before.before in
-    let s = test.before.before.before in
-    came c.refused2.ensures
-    ∙ call-refused (program_in s.args.parts.now) s.args.readings.now times count (machine s positions)
-    s.args.n s.args.unused _ test.if1.false
-    (called.call.ensures times s.args.going.clock positions) c.before.if2.true
+returns-2 c start times count =
+    let called = c.before.before.before in
+    let s = called.before.before.before.args in
+    c.refused2.ensures
+    ∙ call-refused (program_in s.tables.now start) s.readings.now times count s.at s.n s.unused called.call.result called.before.before.if1.false
+    (called.call.ensures start times) c.before.if2.true
 
-add-gone : tie.Need-overflow-add-gone
-add-gone c = search rules
-
-gone-requires : tie.Need-gone-requires
-gone-requires c κs = search rules
+moved-requires : tie.Need-moved-requires
+moved-requires c κs = search rules
 
 returns-3 : tie.Need-returns-3
-returns-3 c times count positions =
-    let test2 = c.before.before in
-    let called = test2.before in
-    let test = called.before.before in
-    let s = test.before.before.before in
-    came c.gone.ensures
-    ∙ call-moved (program_in s.args.parts.now) s.args.readings.now times count (machine s positions)
-    s.args.n s.args.unused _ test.if1.false
-    (called.call.ensures times s.args.going.clock positions) test2.if2.false
+returns-3 c start times count =
+    let called = c.before.before.before.before in
+    let s = called.before.before.before.args in
+    c.moved.ensures
+    ∙ call-moved (program_in s.tables.now start) s.readings.now times count s.at s.n s.unused called.call.result called.before.before.if1.false
+    (called.call.ensures start times) c.before.before.if2.false
 
 pub call-spec : {M : Type 1} → statement M
 call-spec =
@@ -67,6 +48,5 @@ call-spec =
     call-requires
     refused-requires-2
     returns-2
-    add-gone
-    gone-requires
+    moved-requires
     returns-3)

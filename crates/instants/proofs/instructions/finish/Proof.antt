@@ -1,9 +1,7 @@
 -- `instants::instructions::finish` meets its contract: it is refused by its one test, or the instant is over.
 use mathlib.Core.Path.{◌∙◌}
-use Rattle.image.specs.Parts.{program_in}
-use Rattle.instants.specs.Step.{at_in}
-use Rattle.instants.proofs.Steps.{came, return_refused, return-executed}
 use borrow.Author.Rules.{rules}
+use Rattle.instants.proofs.Steps.{return_refused, return-executed}
 use Rattle.instants.proofs.instructions.finish.Statement.{statement}
 use Rattle.instants.proofs.instructions.finish.Tie as tie
 
@@ -11,16 +9,13 @@ refused-requires : tie.Need-refused-requires
 refused-requires c κs = search rules
 
 returns : tie.Need-returns
-returns c Q readings times count ports outputs left positions =
+returns c T readings times count =
     let s = c.before.before.before.args in
-    came c.refused.ensures
-    ∙ return_refused (program_in Q) readings times count (at_in ports outputs s.going left positions) s.first s.second
-    c.before.if1.true
+    c.refused.ensures ∙ return_refused _ readings times count s.at s.first s.second c.before.if1.true
 
 returns-2 : tie.Need-returns-2
-returns-2 c Q readings times count ports outputs left positions =
-    let s = c.before.before.args in
-    return-executed (program_in Q) readings times count (at_in ports outputs s.going left positions) s.first s.second c.if1.false
+returns-2 c T readings times count =
+    let s = c.before.before.args in return-executed _ readings times count s.at s.first s.second c.if1.false
 
 pub finish_spec : {M : Type 1} → statement M
 finish_spec = tie.close (tie.spec refused-requires returns returns-2)

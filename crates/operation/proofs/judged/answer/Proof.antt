@@ -101,8 +101,8 @@ returns-3 c =
     let w = c.before.before in
     sym (decided w ∙ next-given w.answer.result (state_answer (passed w.before)) (λ z. omega (arith, z, c.if3.true)))
 
-state-bad-requires : tie.Need-state-bad-requires
-state-bad-requires c κs = search rules
+out-of-range-requires : tie.Need-out-of-range-requires
+out-of-range-requires c κs = search rules
 
 refused-requires-2 : tie.Need-refused-requires-2
 refused-requires-2 c κs = search rules
@@ -110,7 +110,7 @@ refused-requires-2 c κs = search rules
 returns-4 : tie.Need-returns-4
 returns-4 c =
     let q = c.before.before in
-    c.refused2.ensures ∙ sym (left_over q.before ∙ ap state-told (sym q.state-bad.ensures ∙ c.before.if4.true))
+    c.refused2.ensures ∙ sym (left_over q.before ∙ ap state-told (sym q.out_of_range.ensures ∙ c.before.if4.true))
 
 accepted-requires : tie.Need-accepted-requires
 accepted-requires c κs = search rules
@@ -118,7 +118,7 @@ accepted-requires c κs = search rules
 returns-5 : tie.Need-returns-5
 returns-5 c =
     let q = c.before.before in
-    c.accepted.ensures ∙ sym (left_over q.before ∙ ap state-told (sym q.state-bad.ensures ∙ c.before.if4.false))
+    c.accepted.ensures ∙ sym (left_over q.before ∙ ap state-told (sym q.out_of_range.ensures ∙ c.before.if4.false))
 
 pub answer-spec : {M : Type 1} → statement M
 answer-spec =
@@ -131,7 +131,7 @@ answer-spec =
     returns-2
     answer-requires
     returns-3
-    state-bad-requires
+    out-of-range-requires
     refused-requires-2
     returns-4
     accepted-requires

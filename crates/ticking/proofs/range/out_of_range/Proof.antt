@@ -1,4 +1,4 @@
--- `ticking::range::out_of_range` meets its contract: the clock says addresses and ticks, the two loops the rest.
+-- `ticking::range::out_of_range` meets its contract: the state says its addresses and ticks, the two searches the rest.
 use Rattle.std.proofs.Common.{Bool, ◌||◌, ltb, leb, ap₂, rules}
 use Rattle.cells.specs.Limits.{max_elapsed, max_remaining}
 use Rattle.machine.specs.Advance.{state_out}
@@ -13,12 +13,12 @@ some-far-requires c κs = search rules
 
 returns : tie.Need-returns
 unfolding state_out
-returns c v o =
-    let a = c.before.before.before.before.before.before.args in
+returns c =
+    let a = c.before.before.before.before.before.before.before.before.args in
     ap₂
     (λ (long far : Bool).
-    (leb a.instructions a.c.pending || leb a.instructions a.c.current)
-    || (ltb max_elapsed a.c.elapsed || ltb max_remaining a.c.remaining)
+    (leb a.instructions a.s.pending || leb a.instructions a.s.current)
+    || (ltb max_elapsed a.s.elapsed || ltb max_remaining a.s.remaining)
     || long
     || far)
     c.before.some-long.ensures c.some-far.ensures

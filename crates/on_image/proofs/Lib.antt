@@ -1,3 +1,0 @@
--- Laws of an advance on an image, and of many.
-pub mod Asked
-pub mod Counted

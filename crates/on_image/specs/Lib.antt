@@ -1,2 +1,0 @@
--- The calls on an image.
-pub mod InPlace

@@ -1,1 +1,0 @@
-// What the image of a program says: theorems alone.
