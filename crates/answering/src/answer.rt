@@ -17,7 +17,7 @@ use theory::Answer;
 
 // What is to be printed: the text is bad; or the answer of compiling, whether its 11 is that of a listing larger than is held, and the
 // listing's length, which are all 0 of a bad text.
-#[derive(Drop)]
+#[derive(Clone, Copy)]
 pub struct Shown {
     pub bad: bool,
     pub larger: bool,

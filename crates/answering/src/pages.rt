@@ -10,7 +10,7 @@ use text::line::Line;
 use text::{listing, page};
 
 // A page: of the buffer the bytes `from` up to `len` are still to be written; instruction `next` begins the page behind it.
-#[derive(Drop)]
+#[derive(Clone, Copy)]
 pub struct Sheet {
     pub from: usize,
     pub len: usize,

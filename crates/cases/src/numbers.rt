@@ -4,21 +4,21 @@ use crate::stream::Reader;
 use cells::table;
 
 // A signed number that was read.
-#[derive(Drop)]
+#[derive(Clone, Copy)]
 pub struct Number {
     pub reader: Reader,
     pub value: i32,
 }
 
 // A number of at most 32 bits, without a sign, that was read.
-#[derive(Drop)]
+#[derive(Clone, Copy)]
 pub struct Natural {
     pub reader: Reader,
     pub value: u32,
 }
 
 // A count that was read: how many numbers, cases or ticks follow.
-#[derive(Drop)]
+#[derive(Clone, Copy)]
 pub struct Amount {
     pub reader: Reader,
     pub value: usize,

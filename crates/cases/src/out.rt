@@ -5,7 +5,7 @@ use libc::STDOUT_FILENO;
 use theory::Answer;
 
 // What became of a case: whether its kind is known, and whether its line could be written.
-#[derive(Drop)]
+#[derive(Clone, Copy)]
 pub struct Outcome {
     pub reader: Reader,
     pub known: bool,

@@ -6,7 +6,7 @@ use cells::table;
 use machine::State;
 
 // A state that was read.
-#[derive(Drop)]
+#[derive(Clone, Copy)]
 pub struct Standing {
     pub reader: Reader,
     pub state: State,
@@ -45,7 +45,7 @@ fn counts(r: Reader, buffer: &mut [u8], out: &mut [usize]) -> Reader {
 }
 
 // Two counts that were read one after the other.
-#[derive(Drop)]
+#[derive(Clone, Copy)]
 struct Pair {
     reader: Reader,
     first: usize,
@@ -65,7 +65,7 @@ fn two(r: Reader, buffer: &mut [u8]) -> Pair {
 }
 
 // What was read of a moment: time stamp, pending and current address, elapsed and remaining ticks.
-#[derive(Drop)]
+#[derive(Clone, Copy)]
 struct Moment {
     reader: Reader,
     time: u32,

@@ -3,7 +3,7 @@ use text::number::Part;
 
 // What was read of a file and where its next byte stands in the buffer. It is `ok` until something that had to stand there did
 // not; `failed` where that was a read that the system refused.
-#[derive(Drop)]
+#[derive(Clone, Copy)]
 pub struct Reader {
     pub fd: i32,
     pub at: usize,
@@ -13,7 +13,7 @@ pub struct Reader {
 }
 
 // A line that was read: its bytes as a number, or `ended` where no byte was left.
-#[derive(Drop)]
+#[derive(Clone, Copy)]
 pub struct Line {
     pub reader: Reader,
     pub part: Part,

@@ -8,14 +8,14 @@ use cells::parts::{least, part};
 use cells::table;
 
 // What was read of a slice: how many of its numbers were kept.
-#[derive(Drop)]
+#[derive(Clone, Copy)]
 pub struct Kept {
     pub reader: Reader,
     pub len: usize,
 }
 
 // What was read of a program: its start mode, and how many numbers of each table were kept.
-#[derive(Drop)]
+#[derive(Clone, Copy)]
 pub struct Lengths {
     pub reader: Reader,
     pub program: Program,

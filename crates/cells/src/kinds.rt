@@ -5,16 +5,16 @@ ghost use Rattle.cells.specs.Cell.{name_of, unnamed};
 // A number that names nothing: every table has fewer rows.
 pub const UNNAMED: usize = 255;
 
-#[derive(Drop)]
+#[derive(Clone, Copy)]
 pub struct Port(u8);
 
-#[derive(Drop)]
+#[derive(Clone, Copy)]
 pub struct Task(u8);
 
-#[derive(Drop)]
+#[derive(Clone, Copy)]
 pub struct Driver(u8);
 
-#[derive(Drop)]
+#[derive(Clone, Copy)]
 pub struct Mode(u8);
 
 // A number as one byte; a larger one names nothing.

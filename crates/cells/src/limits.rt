@@ -1,7 +1,7 @@
 // The limits of document 01, as constants of the program's type.
 
 // A program: its tables are lent beside it, its start mode travels in it.
-#[derive(Drop)]
+#[derive(Clone, Copy)]
 pub struct Program {
     pub start: i32,
 }

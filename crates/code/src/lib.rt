@@ -4,7 +4,7 @@ use theory::Answer;
 pub mod numbers;
 
 // What compiling answers beside the slice: number and place, and the length in instructions, which is 0 where it refuses.
-#[derive(Drop)]
+#[derive(Clone, Copy)]
 pub struct Compiled {
     pub answer: Answer,
     pub length: usize,

@@ -21,7 +21,7 @@ use writing::blocks::Aim;
 use writing::rows::Instant;
 
 // The round of a mode: the mode, its units, the ticks of one, and where its first block stands.
-#[derive(Drop)]
+#[derive(Clone, Copy)]
 pub struct Round {
     pub mode: Mode,
     pub units: usize,

@@ -18,7 +18,7 @@ use machine::{At, State};
 use program::guard;
 
 // What an instruction comes to: 0, 19, 16 or 17; whether it was the `return`; the machine after it, as it was if refused.
-#[derive(Drop)]
+#[derive(Clone, Copy)]
 pub struct Stepped {
     pub number: usize,
     pub over: bool,

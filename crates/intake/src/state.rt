@@ -7,7 +7,7 @@ use cells::limits::Program;
 use text::number::Part;
 
 // What is known of a text after some of its bytes.
-#[derive(Drop)]
+#[derive(Clone, Copy)]
 pub struct Intake {
     // What was read of the line that is being read.
     pub part: Part,

@@ -14,7 +14,7 @@ use cells::ports;
 use program::due;
 
 // How many rows of each table are due at a unit, and how many sensors there are.
-#[derive(Drop)]
+#[derive(Clone, Copy)]
 pub struct Counts {
     pub invocations: usize,
     pub updates: usize,

@@ -5,7 +5,7 @@ use theory::Answer;
 
 // The state of the machine: port values, local outputs, time stamp, pending address, current `future` address, elapsed and
 // remaining ticks of the unit, remaining time by task, position by supplier (rows of its block passed).
-#[derive(Drop)]
+#[derive(Clone, Copy)]
 pub struct State {
     pub ports: [i32; Program::PORTS],
     pub outputs: [i32; Program::PORTS],
@@ -19,21 +19,21 @@ pub struct State {
 }
 
 // What an instant or a tick comes to: 0 and the state after it, or the number that stops it and the state as it was.
-#[derive(Drop)]
+#[derive(Clone, Copy)]
 pub struct Advanced {
     pub number: usize,
     pub state: State,
 }
 
 // What a call on the machine answers: number and place, and the state handed back, which is as before on a refusal.
-#[derive(Drop)]
+#[derive(Clone, Copy)]
 pub struct Handed {
     pub answer: Answer,
     pub state: State,
 }
 
 // The machine within an instant: the next address, whether a `future` was executed, the state so far.
-#[derive(Drop)]
+#[derive(Clone, Copy)]
 pub struct At {
     pub address: usize,
     pub planned: bool,
@@ -41,14 +41,14 @@ pub struct At {
 }
 
 // Who runs in a tick: how many suppliers do, two standing for more, and the task if one does.
-#[derive(Drop)]
+#[derive(Clone, Copy)]
 pub struct Running {
     pub count: usize,
     pub job: Task,
 }
 
 // What a tick of all suppliers comes to: who runs, and the new positions.
-#[derive(Drop)]
+#[derive(Clone, Copy)]
 pub struct Shares {
     pub running: Running,
     pub positions: [usize; Program::SUPPLIERS],

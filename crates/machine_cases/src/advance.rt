@@ -11,7 +11,7 @@ use cells::parts::part;
 use machine::State;
 
 // What became of a tick: whether its line was written, and the state handed back.
-#[derive(Drop)]
+#[derive(Clone, Copy)]
 struct Ticked {
     reader: Reader,
     written: bool,

@@ -39,7 +39,7 @@ fn ticks(
 }
 
 // How many ticks a case has, and what was read for each.
-#[derive(Drop)]
+#[derive(Clone, Copy)]
 struct Alike {
     count: usize,
     slices: TickSlices,
@@ -62,7 +62,7 @@ fn read_alike(
 }
 
 // All that was read of a case: its system, and its ticks.
-#[derive(Drop)]
+#[derive(Clone, Copy)]
 struct Long {
     system: System,
     alike: Alike,

@@ -6,7 +6,7 @@ use cells::parts::{least, part};
 use machine::{Handed, State};
 
 // What was read of a system: program, how many words of its code and numbers of its schedule were kept, and state.
-#[derive(Drop)]
+#[derive(Clone, Copy)]
 pub struct System {
     pub program: Lengths,
     pub code: usize,
@@ -16,7 +16,7 @@ pub struct System {
 }
 
 // What was read for a tick: how many readings, results and times were kept.
-#[derive(Drop)]
+#[derive(Clone, Copy)]
 pub struct TickSlices {
     pub reader: Reader,
     pub readings: usize,
@@ -25,7 +25,7 @@ pub struct TickSlices {
 }
 
 // What was read of code and schedule: how many words of the one and numbers of the other were kept.
-#[derive(Drop)]
+#[derive(Clone, Copy)]
 struct Listed {
     reader: Reader,
     code: usize,

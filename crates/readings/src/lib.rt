@@ -4,7 +4,7 @@ ghost use Rattle.std.specs.Int.Signed.{le_z};
 ghost use Rattle.cells.specs.Cell.{eq_z};
 ghost use Rattle.readings.specs.Reading.{inside, is_missing};
 
-#[derive(Drop)]
+#[derive(Clone, Copy)]
 pub struct Reading(pub i32);
 
 impl Reading {

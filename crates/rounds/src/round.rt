@@ -17,7 +17,7 @@ use layout::counts;
 use runs::block;
 
 // What a round comes to: 14 or 15 with its tick, then 0 and 0; or 0 and 0, and the address and schedule row where the next mode begins.
-#[derive(Drop)]
+#[derive(Clone, Copy)]
 pub struct Rounded {
     pub number: usize,
     pub tick: usize,

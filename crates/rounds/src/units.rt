@@ -12,7 +12,7 @@ use cells::refusals;
 use runs::unit;
 
 // What a unit comes to: 14 or 15 with the tick of the round; or 0, and the remaining times after the unit.
-#[derive(Drop)]
+#[derive(Clone, Copy)]
 pub struct Ended {
     pub number: usize,
     pub tick: usize,

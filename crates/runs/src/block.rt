@@ -7,7 +7,7 @@ use cells::columns::schedule;
 use cells::{parts, table};
 
 // The rows of a schedule from row `begin` on, before row `end`.
-#[derive(Drop)]
+#[derive(Clone, Copy)]
 pub struct Span {
     pub begin: usize,
     pub end: usize,

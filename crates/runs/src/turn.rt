@@ -9,7 +9,7 @@ use cells::limits::Program;
 use cells::{table, tasks};
 
 // What a tick does: the new position (rows of the block passed), whether a task runs, and which (0 where none does).
-#[derive(Drop)]
+#[derive(Clone, Copy)]
 pub struct Turn {
     pub position: usize,
     pub runs: bool,

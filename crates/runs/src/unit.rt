@@ -10,7 +10,7 @@ use cells::kinds::Mode;
 use cells::limits::Program;
 
 // Whether a task ran outside the windows, and at which tick of the round; if none did, the remaining times at the end.
-#[derive(Drop)]
+#[derive(Clone, Copy)]
 pub struct Watched {
     pub outside: bool,
     pub tick: usize,

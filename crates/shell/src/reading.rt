@@ -7,7 +7,7 @@ ghost use Rattle.shell.specs.Reading.{brought, hearing, after_read, AfterSome};
 use intake::state::Intake;
 
 // After one read: what is known of the text, and whether the program reads on.
-#[derive(Drop)]
+#[derive(Clone, Copy)]
 pub struct Piece {
     pub intake: Intake,
     pub more: bool,

@@ -2,7 +2,7 @@
 ghost use Rattle.text.specs.Digits.{Spelled};
 
 // The digits of a number as bytes, at the end of a room of ten: they begin at place `from`.
-#[derive(Drop)]
+#[derive(Clone, Copy)]
 pub struct Digits {
     pub bytes: [u8; Digits::MOST],
     pub from: usize,

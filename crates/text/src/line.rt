@@ -8,7 +8,7 @@ ghost use Rattle.text.specs.Line.{room, most_argument, Holds, Appended};
 use crate::decimal::Digits;
 
 // A line: the first `len` of its bytes are its text.
-#[derive(Drop)]
+#[derive(Clone, Copy)]
 pub struct Line {
     pub bytes: [u8; Line::ROOM],
     pub len: usize,

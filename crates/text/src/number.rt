@@ -17,7 +17,7 @@ pub const LEAST: i32 = -2147483648;
 const PAST_NINE: u8 = 58;
 
 // What was read of a line: a minus, some digit, a byte that fits nowhere, and the value of the digits, TOO_LARGE at most.
-#[derive(Drop)]
+#[derive(Clone, Copy)]
 pub struct Part {
     pub minus: bool,
     pub some: bool,
@@ -26,14 +26,14 @@ pub struct Part {
 }
 
 // What a line comes to as a signed number: `ok` and the number, or 0 where the line is no signed number.
-#[derive(Drop)]
+#[derive(Clone, Copy)]
 pub struct Signed {
     pub ok: bool,
     pub value: i32,
 }
 
 // What a line comes to as a number that is not negative: `ok` and the number, or 0 where the line is none.
-#[derive(Drop)]
+#[derive(Clone, Copy)]
 pub struct Word {
     pub ok: bool,
     pub value: u32,

@@ -12,7 +12,7 @@ use cells::limits::Program;
 use cells::table;
 
 // How far a page goes: `next` is the first instruction that is not on it, and `len` how many bytes it has.
-#[derive(Drop)]
+#[derive(Clone, Copy)]
 pub struct Page {
     pub next: usize,
     pub len: usize,

@@ -8,7 +8,7 @@ use cells::parts::part;
 use theory::Answer;
 
 // What was read of a case: a program, how many numbers of its windows and of the part were kept, and the supplier.
-#[derive(Drop)]
+#[derive(Clone, Copy)]
 struct Asked {
     program: Lengths,
     windows: usize,

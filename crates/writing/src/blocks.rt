@@ -16,7 +16,7 @@ use cells::tables;
 use code::numbers;
 
 // The numbers in a block: where its first stub stands, the delay of its `future`, and the block of the next unit.
-#[derive(Drop)]
+#[derive(Clone, Copy)]
 pub struct Aim {
     pub stub: usize,
     pub ticks: usize,

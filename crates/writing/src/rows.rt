@@ -11,7 +11,7 @@ use cells::table;
 use program::due;
 
 // A unit of a mode: the mode, how many units it has, and which of them.
-#[derive(Drop)]
+#[derive(Clone, Copy)]
 pub struct Instant {
     pub mode: Mode,
     pub units: usize,
@@ -19,7 +19,7 @@ pub struct Instant {
 }
 
 // What is written for a due row: of an invocation its task's output copy, its driver or its task's schedule; of an update its driver.
-#[derive(Drop)]
+#[derive(Clone, Copy)]
 pub enum Form {
     OutputCopy,
     Update,
