@@ -1,4 +1,6 @@
 // The calls on windows and on a supplier's schedule code: numbers 1 to 15 of document 01, the first that applies, with its place.
+#![tactic(auto)]
+
 ghost use Rattle.std.specs.Prelude.{◌≡◌, ℤ};
 ghost use Rattle.program.specs.Tables.{tables_in};
 ghost use Rattle.rules.specs.Shape.{InShape};

@@ -1,4 +1,6 @@
 // Answers: accepted, refused without a place, also where a test says so, and what a search over the rows of a table comes to.
+#![tactic(auto)]
+
 ghost use Rattle.std.specs.Prelude.{◌≡◌, cond};
 ghost use Rattle.theory.specs.Rows.{placeless};
 ghost use Rattle.theory.specs.Verdict.{accepted_number, found_at};

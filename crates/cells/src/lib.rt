@@ -1,5 +1,7 @@
 // The leaf: numbers of lent tables by row and named column, parts of a slice, the four kinds and their rows, limits, refusal numbers.
 // Every access is total.
+#![tactic(auto)]
+
 pub mod columns;
 pub mod drivers;
 pub mod kinds;

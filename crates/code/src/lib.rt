@@ -1,4 +1,6 @@
 // E code: its instructions, the one listing of a program, and compiling it into a lent slice.
+#![tactic(auto)]
+
 use theory::Answer;
 
 pub mod numbers;

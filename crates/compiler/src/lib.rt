@@ -1,4 +1,6 @@
 // Compiling: the answer 1 to 11 or 24 on a program, and its E code, written into a lent slice.
+#![tactic(auto)]
+
 ghost use Rattle.std.specs.Prelude.{◌≡◌};
 ghost use Rattle.program.specs.Tables.{tables_in};
 ghost use Rattle.code.specs.Compile.{compile_answer, compile_slice};

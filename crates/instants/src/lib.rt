@@ -1,4 +1,6 @@
 // One instant of the E machine over lent words: from the pending address to `return`, in at most as many instructions as there are.
+#![tactic(auto)]
+
 ghost use Rattle.std.specs.Prelude.{◌≡◌, ℤ};
 ghost use Rattle.program.specs.Tables.{tables_in};
 ghost use Rattle.program.specs.Program.{program_of};

@@ -1,4 +1,6 @@
 // The composed machine: its state, and what an instant, a tick and an advance hand on. What they come to is in specs/.
+#![tactic(auto)]
+
 use cells::kinds::Task;
 use cells::limits::Program;
 use theory::Answer;

@@ -1,4 +1,6 @@
 // Shows which intervals hold a missing reading: only one that starts at the no-reading value.
+#![tactic(auto)]
+
 use readings::Reading;
 
 // Prints on a line whether an interval holds a value; the texts are those of the value and of the interval.

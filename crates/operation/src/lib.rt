@@ -1,4 +1,6 @@
 // The calls on the machine: a fresh state, and an advance of one tick. A refusal hands the state back as it was.
+#![tactic(auto)]
+
 ghost use Rattle.std.specs.Prelude.{◌≡◌, ◌<◌, ◌≤◌, ◌/◌, ℤ, length};
 ghost use Rattle.cells.specs.Limits.{words_each, max_code, max_elapsed};
 ghost use Rattle.program.specs.Tables.{tables_in};

@@ -1,4 +1,6 @@
 // A reading, its no-reading value, and signed comparison.
+#![tactic(auto)]
+
 ghost use Rattle.std.specs.Prelude.{◌≡◌};
 ghost use Rattle.std.specs.Int.Signed.{le_z};
 ghost use Rattle.cells.specs.Cell.{eq_z};

@@ -1,4 +1,6 @@
 // Number 24: a mode's switches look at a sensor, and none of them is for its missing reading alone.
+#![tactic(auto)]
+
 ghost use Rattle.std.specs.Prelude.{◌≡◌, ℤ};
 ghost use Rattle.theory.specs.Search.{any};
 ghost use Rattle.program.specs.Tables.{Tables, tables_in, switch_count};

@@ -1,4 +1,6 @@
 // Runs of one supplier's schedule code: windows, the block of an address, a tick, a unit. Knows no program.
+#![tactic(auto)]
+
 pub mod block;
 pub mod turn;
 pub mod unit;

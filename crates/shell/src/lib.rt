@@ -1,4 +1,6 @@
 // The body of the shipped program: reads a program from one descriptor, compiles it, and prints on another.
+#![tactic(auto)]
+
 ghost use Rattle.std.specs.Prelude.{◌≤◌, ◌≡◌, length};
 ghost use Rattle.text.specs.Line.{room};
 ghost use Rattle.intake.specs.Exact.{Roomy};

@@ -1,5 +1,7 @@
 // What every call answers. What a number means is said in `cells`.
 
+#![tactic(auto)]
+
 // An answer: a number, and its place: `outer` is a table or a mode, `inner` its row or its tick; 0 and 0 where the number has no place.
 #[derive(Clone, Copy)]
 pub struct Answer {

@@ -1,5 +1,7 @@
 // The shipped program: a program's tables as numbers on standard input; the compiling verdict and the E listing on standard output.
 // Where these could not be written whole, a line on standard error says so.
+#![tactic(auto)]
+
 fn main() {
     if !shell::run(libc::STDIN_FILENO, libc::STDOUT_FILENO) {
         libc::write(

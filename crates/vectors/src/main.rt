@@ -1,4 +1,6 @@
 // Answers files of cases, each by its kind: the last part of the file's name, up to its first dot.
+#![tactic(auto)]
+
 mod answers;
 mod compiles;
 mod kind;

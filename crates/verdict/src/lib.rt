@@ -1,4 +1,6 @@
 // The verdict on a program: numbers 1 to 10 and 24, the first that applies, and the row that it names.
+#![tactic(auto)]
+
 ghost use Rattle.std.specs.Prelude.{◌≡◌, ℤ};
 ghost use Rattle.theory.specs.Verdict.{first_refusal, found_at, rows_answer};
 ghost use Rattle.cells.specs.Refusals.{copies_refused};

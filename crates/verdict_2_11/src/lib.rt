@@ -1,4 +1,6 @@
 // Numbers 2 to 11 and 24, for every call that is lent the tables and more: its own 1 comes before them, numbers of its own behind.
+#![tactic(auto)]
+
 ghost use Rattle.std.specs.Prelude.{◌≡◌, ℤ};
 ghost use Rattle.program.specs.Tables.{tables_in};
 ghost use Rattle.rules.specs.Shape.{InShape};

@@ -1,4 +1,6 @@
 // One instruction of E code, written into a lent slice: from its three words, and from what it names.
+#![tactic(auto)]
+
 ghost use Rattle.std.specs.Prelude.{◌≡◌, [], ◌∷◌, ◌≤◌};
 ghost use Rattle.cells.specs.Cell.{greatest_word};
 ghost use Rattle.code.specs.Op.{schedule, branch};
