@@ -1,0 +1,21 @@
+-- `ports_6_8::task_ports::some_output_shared` meets its contract: the search asks the test of each row.
+use Prim.Native.Nat.{◌-◌}
+use mathlib.Core.Path.{sym, ◌∙◌}
+use Rattle.theory.proofs.Search.{passed_none, passed-more, any_at, passed-all}
+use Rattle.cells.proofs.Rows.{any-rows}
+use Rattle.rules.specs.Modes.{some_output}
+use Rattle.ports_6_8.proofs.task_ports.some_output_shared.Goals as goal
+
+pub loop-k-init : goal.loop-k-init
+loop-k-init c T e1 e2 = passed_none _ _
+
+pub returns-then-output_shared : goal.returns-then-output_shared
+unfolding some_output
+returns-then-output_shared c T e1 e2 = sym (any-rows _ _ e2 ∙ any_at _ _ _ c.loop-k-test.true (sym (c.output_shared.ensures T e1 e2) ∙ c.if-output_shared.true))
+
+pub loop-k-preserved : goal.loop-k-preserved
+loop-k-preserved c T e1 e2 = passed-more _ _ _ (c.loop-k.invariant T e1 e2) c.loop-k-test.true (sym (c.output_shared.ensures T e1 e2) ∙ c.if-output_shared.false)
+
+pub returns : goal.returns
+unfolding some_output
+returns c T e1 e2 = sym (any-rows _ _ e2 ∙ passed-all _ _ _ (c.loop-k.invariant T e1 e2) c.loop-k-test.false)

@@ -1,0 +1,14 @@
+-- `rules_3_5::task_ports::first_task_port_clash` meets its contract: the search asks the test of each row.
+use Prim.Native.Nat.{◌/◌, ◌-◌}
+use mathlib.Core.Path.{◌≡◌}
+use Rattle.theory.proofs.Search.{Passed}
+use lib.ListN.{length}
+use Rattle.program.specs.Tables.{Tables, task_port_width}
+use Rattle.rules.specs.Declared.{task_port_clash}
+use Rattle.rules_3_5.proofs.task_ports.first_task_port_clash.Given as goal
+
+abbrev pub invariant-loop-k : goal.invariant-loop-k
+invariant-loop-k l = (T : Tables) → T.ports ≡ l.ports → T.task_ports ≡ l.task_ports → Passed (task_port_clash T) (length l.task_ports / task_port_width) l.k
+
+abbrev pub decreases-loop-k : goal.decreases-loop-k
+decreases-loop-k l = length l.task_ports / task_port_width - l.k
