@@ -20,11 +20,11 @@ use Rattle.rules_1_2.proofs.searches.bad_field.Reads
 use Rattle.rules_1_2.proofs.searches.bad_field.Goals as goal
 
 -- the program that was lent
-abbrev lent : Lts.Start Tie.the-claims Reads.Pre Reads.Post goal.the-invariant-loop-place goal.the-decreases-loop-place → Tables
+abbrev lent : Lts.Start Tie.the-claims Reads.Pre Reads.Post goal.the-invariant-loop-place goal.the-decreases-loop-place Tie.handed_clauses → Tables
 lent c = tables_in c.args.tables.now c.args.program.start
 
 -- the search says whether the table at the loop's place has a bad row
-told : (c : Lts.After-first_bad Tie.the-claims Reads.Pre Reads.Post goal.the-invariant-loop-place goal.the-decreases-loop-place)
+told : (c : Lts.After-first_bad Tie.the-claims Reads.Pre Reads.Post goal.the-invariant-loop-place goal.the-decreases-loop-place Tie.handed_clauses)
     → ltb c.first_bad-row.result c.count-n.result ≡ table_bad (lent c.before.before.before.before) c.loop-place.place
 told c =
     let a = c.args in
