@@ -121,7 +121,7 @@ pub modes-read : (f : ℕ → ℕ) (T : Tables) (sensors : ℕ) (given given' : 
     → ((m : ℕ) → m < n → f (given m) ≡ given' m)
     → map f (modes_marked T sensors given n table) ≡ modes_marked T sensors given' n (map f table)
 modes-read f T sensors given given' n table e =
-    walked-mapped f _ _ _ 1 n table
+    walked-mapped f _ _ (λ m at t. units_marked (unit_counts T sensors m) (given' m) at (units T m) t) 1 n table
     (λ m at t h.
     walked-mapped f _ _ (λ k b r. set r (b + before_future (unit_counts T sensors m k)) (f (given m))) at (units T m) t (λ k b r l. map-set f r _ _)
     ∙ ap (λ (x : ℕ). units_marked (unit_counts T sensors m) x at (units T m) (map f t)) (e m h))
