@@ -36,18 +36,22 @@ sensors-at c =
 
 pub due-sensors_at-requires : goal.due-sensors_at-requires
 due-sensors_at-requires c =
+    let after-due-updates_at = c.before.before.before in
     let most = form-most OutputCopy c.args.invocations.now c.args.when in
-    omega (arith, updates-at c.before.before.before, most, c.requires)
+    omega (arith, updates-at after-due-updates_at, most, c.requires)
 
 pub sensors-requires : goal.sensors-requires
 sensors-requires c =
+    let after-due-updates_at = c.before.before.before.before.before.before.before in
+    let after-due-sensors_at = c.before.before.before in
     let most = form-most OutputCopy c.args.invocations.now c.args.when in
     let more = form-most Update c.args.updates.now c.args.when in
-    record { ports_bound = omega (arith, updates-at c.before.before.before.before.before.before.before, sensors-at c.before.before.before, most, more, c.requires); ports_bound_2 = c.requires.ports_bound }
+    record { ports_bound = omega (arith, updates-at after-due-updates_at, sensors-at after-due-sensors_at, most, more, c.requires); ports_bound_2 = c.requires.ports_bound }
 
 pub returns : goal.returns
 returns c =
+    let begin = c.before.before.before.before.before.before.before.before.before.before.before.before.before.before in
     let readings = sensor_rows c.args.ports.now reading in
     let first = c.due-updates_at in
-    writes_then (written c.args.code.now c.args.at) (outputs c.before.before.before.before.before.before.before.before.before.before.before.before.before.before) (changes c.before.before.before.before.before.before.before.before.before.before.before.before.before.before ++ readings) first.ensures
-    (writes_then (written first.new.code first.result) (changes c.before.before.before.before.before.before.before.before.before.before.before.before.before.before) readings c.due-sensors_at.ensures c.sensors.ensures)
+    writes_then (written c.args.code.now c.args.at) (outputs begin) (changes begin ++ readings) first.ensures
+    (writes_then (written first.new.code first.result) (changes begin) readings c.due-sensors_at.ensures c.sensors.ensures)

@@ -58,51 +58,61 @@ tests-at c =
 -- the entry is where the counts say
 entry_at : (c : Lts.After-tests Tie.the-claims Reads.Pre Reads.Post Tie.handed_clauses) → c.tests-body_at.result ≡ c.args.at + before_entry (due c.before.before.before.before.before.before.before.before.before.before.before.before)
 entry_at c =
-    let e = written_at (written c.head-tests_at.last.0 c.head-tests_at.result) (tests c.before.before.before.before.before.before.before.before.before.before.before.before) c.tests-body_at.ensures in
+    let e = written_at (written c.head-tests_at.new.code c.head-tests_at.result) (tests c.before.before.before.before.before.before.before.before.before.before.before.before) c.tests-body_at.ensures in
     omega (arith, e, tests-at c.before.before.before.before, tests-count (lent c.before.before.before.before.before.before.before.before.before.before.before.before) c.args.when c.args.aim.stub)
 
 -- the `future` stands where the counts say
 future-at : (c : Lts.After-body Tie.the-claims Reads.Pre Reads.Post Tie.handed_clauses) → c.body-end_at.result ≡ c.args.at + before_future (due c.before.before.before.before.before.before.before.before.before.before.before.before.before.before.before.before)
 future-at c =
-    let e = written_at (written c.tests-body_at.last.0 c.tests-body_at.result) (body c.before.before.before.before.before.before.before.before.before.before.before.before.before.before.before.before) c.body-end_at.ensures in
+    let e = written_at (written c.tests-body_at.new.code c.tests-body_at.result) (body c.before.before.before.before.before.before.before.before.before.before.before.before.before.before.before.before) c.body-end_at.ensures in
     omega (arith, e, entry_at c.before.before.before.before, body-count (lent c.before.before.before.before.before.before.before.before.before.before.before.before.before.before.before.before) c.args.when)
 
 -- the stubs begin behind the `future` and the `return`
 stubs-at : (c : Lts.After-end Tie.the-claims Reads.Pre Reads.Post Tie.handed_clauses)
     → c.end-stubs_at.result ≡ c.args.at + before_future (due c.before.before.before.before.before.before.before.before.before.before.before.before.before.before.before.before.before.before.before.before) + 2
 stubs-at c =
-    let e = written_at (written c.body-end_at.last.0 c.body-end_at.result) (end_in c.args.aim) c.end-stubs_at.ensures in
+    let e = written_at (written c.body-end_at.new.code c.body-end_at.result) (end_in c.args.aim) c.end-stubs_at.ensures in
     omega (arith, e, future-at c.before.before.before.before)
 
 pub head-tests_at-requires : goal.head-tests_at-requires
 head-tests_at-requires c =
-    let rows = few-rows (lent c.before.before.before.before.before.before.before.before) (shape c.before.before.before.before.before.before.before.before) in
-    record { most_block_bound = c.requires.most_block_bound; ports_bound = ports-few (lent c.before.before.before.before.before.before.before.before) ((shape-bars (lent c.before.before.before.before.before.before.before.before)).ok (shape c.before.before.before.before.before.before.before.before)); invocations_bound = rows.invocations; updates_bound = rows.updates }
+    let begin = c.before.before.before.before.before.before.before.before in
+    let rows = few-rows (lent begin) (shape begin) in
+    record { most_block_bound = c.requires.most_block_bound; ports_bound = ports-few (lent begin) ((shape-bars (lent begin)).ok (shape begin)); invocations_bound = rows.invocations; updates_bound = rows.updates }
 
 pub tests-body_at-requires : goal.tests-body_at-requires
 tests-body_at-requires c =
-    let rows = few-rows (lent c.before.before.before.before.before.before.before.before.before.before.before.before) (shape c.before.before.before.before.before.before.before.before.before.before.before.before) in
-    let few = sized (lent c.before.before.before.before.before.before.before.before.before.before.before.before) c.args.when (shape c.before.before.before.before.before.before.before.before.before.before.before.before) in
-    record { switches_bound = omega (arith, tests-at c.before.before.before.before, few, rows, c.requires.most_block_bound); switches_bound_2 = omega (arith, rows, c.requires.aimed) }
+    let begin = c.before.before.before.before.before.before.before.before.before.before.before.before in
+    let after-head-tests_at = c.before.before.before.before in
+    let rows = few-rows (lent begin) (shape begin) in
+    let few = sized (lent begin) c.args.when (shape begin) in
+    record { switches_bound = omega (arith, tests-at after-head-tests_at, few, rows, c.requires.most_block_bound); switches_bound_2 = omega (arith, rows, c.requires.aimed) }
 
 pub body-end_at-requires : goal.body-end_at-requires
 body-end_at-requires c =
-    let few = sized (lent c.before.before.before.before.before.before.before.before.before.before.before.before.before.before.before.before) c.args.when (shape c.before.before.before.before.before.before.before.before.before.before.before.before.before.before.before.before) in
-    record { max_invocations_bound = omega (arith, entry_at c.before.before.before.before, few, c.requires.most_block_bound); invocations_bound = (few-rows (lent c.before.before.before.before.before.before.before.before.before.before.before.before.before.before.before.before) (shape c.before.before.before.before.before.before.before.before.before.before.before.before.before.before.before.before)).invocations }
+    let begin = c.before.before.before.before.before.before.before.before.before.before.before.before.before.before.before.before in
+    let after-tests-body_at = c.before.before.before.before in
+    let few = sized (lent begin) c.args.when (shape begin) in
+    record { max_invocations_bound = omega (arith, entry_at after-tests-body_at, few, c.requires.most_block_bound); invocations_bound = (few-rows (lent begin) (shape begin)).invocations }
 
 pub end-stubs_at-requires : goal.end-stubs_at-requires
 end-stubs_at-requires c =
-    let few = sized (lent c.before.before.before.before.before.before.before.before.before.before.before.before.before.before.before.before.before.before.before.before) c.args.when (shape c.before.before.before.before.before.before.before.before.before.before.before.before.before.before.before.before.before.before.before.before) in
-    record { at_lt_greatest_word = omega (arith, future-at c.before.before.before.before, few, c.requires.most_block_bound); aimed = c.requires.aimed }
+    let begin = c.before.before.before.before.before.before.before.before.before.before.before.before.before.before.before.before.before.before.before.before in
+    let after-body-end_at = c.before.before.before.before in
+    let few = sized (lent begin) c.args.when (shape begin) in
+    record { at_lt_greatest_word = omega (arith, future-at after-body-end_at, few, c.requires.most_block_bound); aimed = c.requires.aimed }
 
 pub stubs-requires : goal.stubs-requires
 stubs-requires c =
-    let few = sized (lent c.before.before.before.before.before.before.before.before.before.before.before.before.before.before.before.before.before.before.before.before.before.before.before.before) c.args.when (shape c.before.before.before.before.before.before.before.before.before.before.before.before.before.before.before.before.before.before.before.before.before.before.before.before) in
-    record { switches_bound = omega (arith, stubs-at c.before.before.before.before, few, few-rows (lent c.before.before.before.before.before.before.before.before.before.before.before.before.before.before.before.before.before.before.before.before.before.before.before.before) (shape c.before.before.before.before.before.before.before.before.before.before.before.before.before.before.before.before.before.before.before.before.before.before.before.before), c.requires.most_block_bound); addresses = c.requires.addresses }
+    let begin = c.before.before.before.before.before.before.before.before.before.before.before.before.before.before.before.before.before.before.before.before.before.before.before.before in
+    let after-end-stubs_at = c.before.before.before.before in
+    let few = sized (lent begin) c.args.when (shape begin) in
+    record { switches_bound = omega (arith, stubs-at after-end-stubs_at, few, few-rows (lent begin) (shape begin), c.requires.most_block_bound); addresses = c.requires.addresses }
 
 pub returns : goal.returns
 returns c start =
-    writes_then (written c.args.code.now c.args.at) (head c.before.before.before.before.before.before.before.before.before.before.before.before.before.before.before.before.before.before.before.before.before.before.before.before.before.before.before) (tests c.before.before.before.before.before.before.before.before.before.before.before.before.before.before.before.before.before.before.before.before.before.before.before.before.before.before.before ++ (body c.before.before.before.before.before.before.before.before.before.before.before.before.before.before.before.before.before.before.before.before.before.before.before.before.before.before.before ++ (end_in c.args.aim ++ stubs c.before.before.before.before.before.before.before.before.before.before.before.before.before.before.before.before.before.before.before.before.before.before.before.before.before.before.before))) c.head-tests_at.ensures
-    (writes_then (written c.head-tests_at.last.0 c.head-tests_at.result) (tests c.before.before.before.before.before.before.before.before.before.before.before.before.before.before.before.before.before.before.before.before.before.before.before.before.before.before.before) (body c.before.before.before.before.before.before.before.before.before.before.before.before.before.before.before.before.before.before.before.before.before.before.before.before.before.before.before ++ (end_in c.args.aim ++ stubs c.before.before.before.before.before.before.before.before.before.before.before.before.before.before.before.before.before.before.before.before.before.before.before.before.before.before.before)) c.tests-body_at.ensures
-    (writes_then (written c.tests-body_at.last.0 c.tests-body_at.result) (body c.before.before.before.before.before.before.before.before.before.before.before.before.before.before.before.before.before.before.before.before.before.before.before.before.before.before.before) (end_in c.args.aim ++ stubs c.before.before.before.before.before.before.before.before.before.before.before.before.before.before.before.before.before.before.before.before.before.before.before.before.before.before.before) c.body-end_at.ensures
-    (writes_then (written c.body-end_at.last.0 c.body-end_at.result) (end_in c.args.aim) (stubs c.before.before.before.before.before.before.before.before.before.before.before.before.before.before.before.before.before.before.before.before.before.before.before.before.before.before.before) c.end-stubs_at.ensures c.stubs.ensures)))
+    let begin = c.before.before.before.before.before.before.before.before.before.before.before.before.before.before.before.before.before.before.before.before.before.before.before.before.before.before.before in
+    writes_then (written c.args.code.now c.args.at) (head begin) (tests begin ++ (body begin ++ (end_in c.args.aim ++ stubs begin))) c.head-tests_at.ensures
+    (writes_then (written c.head-tests_at.new.code c.head-tests_at.result) (tests begin) (body begin ++ (end_in c.args.aim ++ stubs begin)) c.tests-body_at.ensures
+    (writes_then (written c.tests-body_at.new.code c.tests-body_at.result) (body begin) (end_in c.args.aim ++ stubs begin) c.body-end_at.ensures
+    (writes_then (written c.body-end_at.new.code c.body-end_at.result) (end_in c.args.aim) (stubs begin) c.end-stubs_at.ensures c.stubs.ensures)))

@@ -30,11 +30,14 @@ words s = row_words s.args.form s.args.rows.now
 
 pub due_row-next-requires : goal.due_row-next-requires
 due_row-next-requires c =
-    let few = those-few (due c.before.before.before.before.before) (words c.before.before.before.before.before) (rows_in (form_width c.args.form) c.args.rows.now - 0) 0 in
+    let begin = c.before.before.before.before.before in
+    let few = those-few (due begin) (words begin) (rows_in (form_width c.args.form) c.args.rows.now - 0) 0 in
     omega (arith, left_at c.loop-i.invariant, few, c.requires)
 
 pub loop-i-preserved : goal.loop-i-preserved
 loop-i-preserved c =
+    let begin = c.before.before.before.before.before.before.before.before.before in
+    let after-width = c.before.before.before.before.before.before.before in
     let n = rows_in (form_width c.args.form) c.args.rows.now in
-    let below : c.loop-i.i < n = omega (arith, c.loop-i-test.true, counted c.before.before.before.before.before.before.before) in
-    left-more c.loop-i.invariant (those (due c.before.before.before.before.before.before.before.before.before) (words c.before.before.before.before.before.before.before.before.before) 1 c.loop-i.i) c.due_row-next.ensures (those-next (due c.before.before.before.before.before.before.before.before.before) (words c.before.before.before.before.before.before.before.before.before) n c.loop-i.i below)
+    let below : c.loop-i.i < n = omega (arith, c.loop-i-test.true, counted after-width) in
+    left-more c.loop-i.invariant (those (due begin) (words begin) 1 c.loop-i.i) c.due_row-next.ensures (those-next (due begin) (words begin) n c.loop-i.i below)

@@ -41,16 +41,21 @@ loop-p-init c =
 
 pub sensor_row-next-requires : goal.sensor_row-next-requires
 sensor_row-next-requires c =
-    let few = those-few (is_sensor (lent c.before.before.before)) reading (rows_in port_width (lent c.before.before.before) - 0) 0 in
+    let at-loop-p = c.before.before.before in
+    let few = those-few (is_sensor (lent at-loop-p)) reading (rows_in port_width (lent at-loop-p) - 0) 0 in
     omega (arith, left_at c.loop-p.invariant, few, c.requires.ports_bound)
 
 pub loop-p-smaller : goal.loop-p-smaller
-loop-p-smaller c = omega (arith, step c.before, below c.before.before.before.before.before.before)
+loop-p-smaller c =
+    let in-loop-p = c.before.before.before.before.before.before in
+    omega (arith, step c.before, below in-loop-p)
 
 pub loop-p-preserved : goal.loop-p-preserved
 loop-p-preserved c =
+    let at-loop-p = c.before.before.before.before.before.before.before.before in
+    let in-loop-p = c.before.before.before.before.before.before in
     let a = c.args in
     let row = c.sensor_row-next in
-    subst (λ (i : ℕ). Left (rest (lent c.before.before.before.before.before.before.before.before)) i (written a.code.now a.at) (written row.new.code row.result)) (sym (step c.before))
-    (left-more c.loop-p.invariant (those (is_sensor (lent c.before.before.before.before.before.before.before.before)) reading 1 c.loop-p.p.0) row.ensures
-    (those-next (is_sensor (lent c.before.before.before.before.before.before.before.before)) reading (rows_in port_width (lent c.before.before.before.before.before.before.before.before)) c.loop-p.p.0 (below c.before.before.before.before.before.before)))
+    subst (λ (i : ℕ). Left (rest (lent at-loop-p)) i (written a.code.now a.at) (written row.new.code row.result)) (sym (step c.before))
+    (left-more c.loop-p.invariant (those (is_sensor (lent at-loop-p)) reading 1 c.loop-p.p.0) row.ensures
+    (those-next (is_sensor (lent at-loop-p)) reading (rows_in port_width (lent at-loop-p)) c.loop-p.p.0 (below in-loop-p)))

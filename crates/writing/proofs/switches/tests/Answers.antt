@@ -27,13 +27,19 @@ near c =
     )
 
 pub overflow_mul-next : goal.overflow_mul-next
-overflow_mul-next c = record { fits = omega (arith, near c.before.before, c.requires.switches_bound_2) }
+overflow_mul-next c =
+    let at-loop-i = c.before.before in
+    record { fits = omega (arith, near at-loop-i, c.requires.switches_bound_2) }
 
 pub overflow_add-stub : goal.overflow_add-stub
-overflow_add-stub c = record { fits = omega (arith, near c.before.before, c.requires.switches_bound_2) }
+overflow_add-stub c =
+    let at-loop-i = c.before.before in
+    record { fits = omega (arith, near at-loop-i, c.requires.switches_bound_2) }
 
 pub test_row-next-requires : goal.test_row-next-requires
-test_row-next-requires c = record { at_le_greatest_word = omega (arith, near c.before.before, c.requires.switches_bound); stub_le_greatest_word = omega (arith, near c.before.before, c.requires.switches_bound_2) }
+test_row-next-requires c =
+    let at-loop-i = c.before.before in
+    record { at_le_greatest_word = omega (arith, near at-loop-i, c.requires.switches_bound); stub_le_greatest_word = omega (arith, near at-loop-i, c.requires.switches_bound_2) }
 
 pub loop-i-preserved : goal.loop-i-preserved
 loop-i-preserved c =
