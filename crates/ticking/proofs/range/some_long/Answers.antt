@@ -1,4 +1,5 @@
 -- `ticking::range::some_long` meets its contract: the search asks the remaining time of each task.
+use mathlib.Core.Bool.{not}
 use Rattle.std.proofs.Common.{◌-◌, ◌<◌, ltb, sym, ap, ◌∙◌, subst, arith, le-ltb, lt-ltb}
 use Rattle.theory.proofs.Search.{Passed, passed_none, passed-more, any_at, passed-all}
 use Rattle.cells.specs.Limits.{max_tasks, max_left}
@@ -11,7 +12,7 @@ use Rattle.ticking.proofs.range.some_long.Goals as goal
 -- the loop's task is one before the limit
 own : (c : Lts.Then1 Tie.the-claims Reads.Pre Reads.Post goal.the-invariant-loop-left goal.the-decreases-loop-left) → c.loop-left.t.0 < max_tasks
 own c =
-    goes_on max_tasks (omega arith) _ _ c.of-end.ensures _ c.is.ensures c.loop-left.invariant.in-range c.loop-left-test.true
+    goes_on max_tasks (omega arith) _ _ c.of-end.ensures _ c.is.ensures c.loop-left.invariant.in-range (ap not c.loop-left-test.true)
 
 pub loop-left-init : goal.loop-left-init
 loop-left-init c = subst (Passed _ max_tasks) (sym (begins _ c.of-t.ensures)) (passed_none _ _)
@@ -37,5 +38,5 @@ loop-left-preserved c =
 
 pub returns : goal.returns
 returns c =
-    let e = ends max_tasks (omega arith) _ _ c.of-end.ensures _ c.is.ensures c.loop-left-test.false in
+    let e = ends max_tasks (omega arith) _ _ c.of-end.ensures _ c.is.ensures (ap not c.loop-left-test.false) in
     sym (passed-all _ _ _ c.loop-left.invariant (omega arith))

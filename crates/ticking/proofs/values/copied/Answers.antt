@@ -12,4 +12,4 @@ loop-i-preserved c =
 pub returns : goal.returns
 returns c T e =
     let a = c.args in
-    rows-ended c.loop-i-test.false (c.loop-i.invariant.1 T e) ∙ copies-all T a.d.0 a.t3 a.copies.now e
+    rows-ended c.loop-i-test.false (c.loop-i.invariant.1 T e) ∙ copies-all T a.d.0 a.values a.copies.now e

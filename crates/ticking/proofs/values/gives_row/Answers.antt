@@ -11,7 +11,7 @@ use Rattle.ticking.proofs.values.gives_row.Reads
 use Rattle.ticking.proofs.values.gives_row.Goals as goal
 
 -- the row is one of a port that the task gives exactly where both tests say so
-own : (c : Lts.After-may_give Tie.the-claims Reads.Pre Reads.Post) (T : Tables) → T.ports ≡ c.args.ports.now → T.task_ports ≡ c.args.task-ports.now
+own : (c : Lts.After-may_give Tie.the-claims Reads.Pre Reads.Post) (T : Tables) → T.ports ≡ c.args.ports.now → T.task_ports ≡ c.args.task_ports.now
     → gives_row T c.args.t.0 c.args.k ≡ c.is.result && c.may_give.result
 unfolding gives_row
 own c T e f =
@@ -26,7 +26,7 @@ returns-then-is-may_give c T e f =
     let value : c.value.result ≡ value_of a.given.now (task_port_port T a.k) = simp (c.value.ensures, port.ensures, f) in
     c.put.ensures
     ∙ row_put _ (gives_put T a.given.now a.k) a.values.now _ _ (own after-may_give T e f ∙ c.if-is-may_give.true) place
-    (back c.value.result c.value.type-inv ∙ value)
+    (back c.value.result c.value.type_inv ∙ value)
 
 pub returns-else-is-may_give : goal.returns-else-is-may_give
 returns-else-is-may_give c T e f =

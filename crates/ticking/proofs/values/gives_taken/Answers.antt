@@ -7,9 +7,9 @@ use Rattle.ticking.proofs.values.gives_taken.Goals as goal
 pub loop-k-preserved : goal.loop-k-preserved
 loop-k-preserved c =
     let size = c.loop-k.invariant.0 in
-    (search rules, λ T e f. rows_more _ c.loop-k-test.true (c.Gives-row.ensures T e f) (c.loop-k.invariant.1 T e f))
+    (search rules, λ T e f. rows_more _ c.loop-k-test.true (c.gives_row.ensures T e f) (c.loop-k.invariant.1 T e f))
 
 pub returns : goal.returns
 returns c T e f =
     let a = c.args in
-    rows-ended c.loop-k-test.false (c.loop-k.invariant.1 T e f) ∙ outputs-all T a.t.0 a.given.now a.values a.task-ports.now f
+    rows-ended c.loop-k-test.false (c.loop-k.invariant.1 T e f) ∙ outputs-all T a.t.0 a.given.now a.values a.task_ports.now f
