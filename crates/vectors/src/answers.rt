@@ -11,28 +11,28 @@ use std::str;
 
 // Answers the next case of a kind. A refused reader reads nothing, and nothing is printed for it.
 fn case(output: Stdout, kind: &[u8], r: Reader, source: &mut Source) -> Outcome {
-    if kind == b"verdict" {
+    if kind == b"verdict".as_slice() {
         return programs::case(output, r, source, false);
     }
-    if kind == b"compile" {
+    if kind == b"compile".as_slice() {
         return compiles::case(output, r, source);
     }
-    if kind == b"windows" {
+    if kind == b"windows".as_slice() {
         return window_cases::case(output, r, source);
     }
-    if kind == b"supplier" {
+    if kind == b"supplier".as_slice() {
         return supplier_cases::case(output, r, source);
     }
-    if kind == b"fresh" {
+    if kind == b"fresh".as_slice() {
         return programs::case(output, r, source, true);
     }
-    if kind == b"advance" {
+    if kind == b"advance".as_slice() {
         return advance::case(output, r, source, false);
     }
-    if kind == b"run" {
+    if kind == b"run".as_slice() {
         return advance::case(output, r, source, true);
     }
-    if kind == b"long" {
+    if kind == b"long".as_slice() {
         return long::case(output, r, source);
     }
     Outcome {
@@ -119,7 +119,7 @@ pub fn file(rt: HostRuntime, name: &[u8]) -> bool {
             out::say(output, b"no file: ", name)
         }
         Ok(mut file) => {
-            if kind == b"main" {
+            if kind == b"main".as_slice() {
                 shell::run(&mut file, &mut output);
                 return true;
             }
