@@ -140,9 +140,7 @@ pub fn case(output: Stdout, r: Reader, source: &mut Source) -> Outcome {
         &mut results,
         &mut times,
     );
-    let written = judged(
-        output, a, &room, &code, &rows, &readings, &results, &times,
-    );
+    let written = judged(output, a, &room, &code, &rows, &readings, &results, &times);
     let alike = a.alike;
     let slices = alike.slices;
     let reader = slices.reader;

@@ -32,7 +32,14 @@ fn line(
 // Holds three readings against one interval: a small one, none, and the largest.
 fn three(output: Stdout, low: i32, high: i32, interval: &[u8]) -> io::Result<()> {
     line(output, 5, b"5", low, high, interval)?;
-    line(output, Reading::NO_READING, b"-2147483648", low, high, interval)?;
+    line(
+        output,
+        Reading::NO_READING,
+        b"-2147483648",
+        low,
+        high,
+        interval,
+    )?;
     line(output, 2147483647, b"2147483647", low, high, interval)
 }
 

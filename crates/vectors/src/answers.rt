@@ -5,9 +5,8 @@ use cases::stream::{Reader, Source};
 use cases::{numbers, out, stream};
 use machine_cases::{advance, long, programs};
 use std::fs::File;
-use std::io;
 use std::io::Stdout;
-use std::str;
+use std::{io, str};
 
 // Answers the next case of a kind. A refused reader reads nothing, and nothing is printed for it.
 fn case(output: Stdout, kind: &[u8], r: Reader, source: &mut Source) -> Outcome {

@@ -9,7 +9,10 @@ use std::io::Stdout;
 // Writes the line of a program that was read, with its windows; false where it could not be written.
 fn judged(output: Stdout, l: Lengths, room: &[i32], windows: &[i32]) -> bool {
     let all = tables::tables_in(l, room);
-    out::answer_line(output, acceptance::windows_verdict(&all, l.program, windows))
+    out::answer_line(
+        output,
+        acceptance::windows_verdict(&all, l.program, windows),
+    )
 }
 
 // Answers a case of the kind `windows`.
