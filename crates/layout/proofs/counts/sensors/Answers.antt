@@ -40,8 +40,8 @@ loop-p-preserved c =
     let l = c.loop-p in
     subst (λ (i : ℕ). Counted (passes ports) n i c.if-kind-eq-SENSOR.count) (sym (step c))
     (elim c.if-kind-eq-SENSOR.branch [
-    then-kind-eq-SENSOR w ↦ subst (Counted (passes ports) n (l.p.0 + 1)) (sym w.count-is)
-        (one_more (passes ports) n l.p.0 _ (below c.before.before.before) (eq-eqb _ _ (sym kind.ensures ∙ w.if-kind-eq-SENSOR.true)) l.invariant)
-    | else-kind-eq-SENSOR w ↦ subst (Counted (passes ports) n (l.p.0 + 1)) (sym w.count-is)
-        (no_more (passes ports) n l.p.0 _ (below c.before.before.before) (ne_eqb _ _ (λ e. w.if-kind-eq-SENSOR.false (kind.ensures ∙ e))) l.invariant)
+      | then-kind-eq-SENSOR w ↦ subst (Counted (passes ports) n (l.p.0 + 1)) (sym w.count-is)
+          (one_more (passes ports) n l.p.0 _ (below c.before.before.before) (eq-eqb _ _ (sym kind.ensures ∙ w.if-kind-eq-SENSOR.true)) l.invariant)
+      | else-kind-eq-SENSOR w ↦ subst (Counted (passes ports) n (l.p.0 + 1)) (sym w.count-is)
+          (no_more (passes ports) n l.p.0 _ (below c.before.before.before) (ne_eqb _ _ (λ e. w.if-kind-eq-SENSOR.false (kind.ensures ∙ e))) l.invariant)
     ])

@@ -7,43 +7,41 @@ use Rattle.text.specs.Line.{Appended}
 use Rattle.text.specs.Said.{said_of}
 use Rattle.text.proofs.Lines.{appended-none}
 use Rattle.text.proofs.Said.{said-unused, said-unknown}
-use Rattle.text.proofs.listing.said.Lts
-use Rattle.text.proofs.listing.said.Tie
-use Rattle.text.proofs.listing.said.Reads
 use Rattle.text.proofs.listing.said.Goals as goal
 
 -- what is said of the instruction by the number that the first word is
-known : (c : Lts.Start Tie.the-claims Reads.Pre Reads.Post Tie.handed_clauses) (n : ℕ) → c.args.number ≡ n → said_of (decode n c.args.first c.args.second) ≡ said_of (decode c.args.number c.args.first c.args.second)
-known c n e = ap (λ (k : ℕ). said_of (decode k c.args.first c.args.second)) (sym e)
+known :
+    (number first second n : ℕ) → number ≡ n → said_of (decode n first second) ≡ said_of (decode number first second)
+known number first second n e = ap (λ (k : ℕ). said_of (decode k first second)) (sym e)
 
 pub returns-in-0 : goal.returns-in-0
 returns-in-0 c =
-    subst (Appended _ _) (said-unused c.args.second (call c.args.first) ∙ known c.before.before.before call_number c.in-0.is) c.one.ensures
+    subst (Appended _ _) (said-unused c.args.second (call c.args.first) ∙ known c.args.number c.args.first c.args.second call_number c.in-0.is) c.one.ensures
 
 pub returns-in-1 : goal.returns-in-1
 returns-in-1 c =
-    subst (Appended _ _) (said-unused c.args.second (schedule c.args.first) ∙ known c.before.before.before schedule_number c.in-1.is) c.one-in-1.ensures
+    subst (Appended _ _) (said-unused c.args.second (schedule c.args.first) ∙ known c.args.number c.args.first c.args.second schedule_number c.in-1.is) c.one-in-1.ensures
 
 pub returns-in-2 : goal.returns-in-2
 unfolding said_of
-returns-in-2 c = subst (Appended _ _) (known c.before.before.before if_number c.in-2.is) c.two.ensures
+returns-in-2 c = subst (Appended _ _) (known c.args.number c.args.first c.args.second if_number c.in-2.is) c.two.ensures
 
 pub returns-in-3 : goal.returns-in-3
 returns-in-3 c =
-    subst (Appended _ _) (said-unused c.args.second (jump c.args.first) ∙ known c.before.before.before jump_number c.in-3.is) c.one-in-3.ensures
+    subst (Appended _ _) (said-unused c.args.second (jump c.args.first) ∙ known c.args.number c.args.first c.args.second jump_number c.in-3.is) c.one-in-3.ensures
 
 pub returns-in-4 : goal.returns-in-4
 unfolding said_of
-returns-in-4 c = subst (Appended _ _) (known c.before.before.before future_number c.in-4.is) c.two-in-4.ensures
+returns-in-4 c = subst (Appended _ _) (known c.args.number c.args.first c.args.second future_number c.in-4.is) c.two-in-4.ensures
 
 pub returns-in-5 : goal.returns-in-5
 returns-in-5 c =
-    subst (Appended _ _) (said-unused (c.args.first + c.args.second) return ∙ known c.before.before.before return_number c.in-5.is) c.none.ensures
+    subst (Appended _ _) (said-unused (c.args.first + c.args.second) return ∙ known c.args.number c.args.first c.args.second return_number c.in-5.is) c.none.ensures
 
 pub returns-in_default : goal.returns-in_default
 returns-in_default c =
     let a = c.args in
-    let r = c.in_default.rest in
+    let r = c.in_default.in_default-own.rest in
     subst (Appended _ _)
     (said-unknown a.number a.first a.second r.0.0.0.0.0.1 r.0.0.0.0.1 r.0.0.0.1 r.0.0.1 r.0.1 r.1)
     (appended-none _)

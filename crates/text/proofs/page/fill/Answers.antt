@@ -25,7 +25,7 @@ pub loop-next-preserved : goal.loop-next-preserved
 loop-next-preserved c =
     let w = c.loop-next.invariant.0 in
     let code = c.args.code.now in
-    let said = c.line_at_lem.ensures in
+    let said = c.line_at.ensures in
     let laid = c.lay-len.ensures in
     let few = line-few c.loop-next.next (get_or (instructions code) c.loop-next.next faulty) in
     let there : c.loop-next.next < length (instructions code) =
@@ -38,6 +38,11 @@ loop-next-preserved c =
       paged-more (instructions code) (length out) from c.loop-next.next c.loop-next.len c.loop-next.invariant.1 c.lay-len.result there fits
           (omega (arith, laid.end, said.len)),
     )
+
+pub lay-len-requires-clause-len_le_room : goal.lay-len-requires-clause-len_le_room
+lay-len-requires-clause-len_le_room c =
+    let few = line-few c.loop-next.next (get_or (instructions c.args.code.now) c.loop-next.next faulty) in
+    omega (arith, c.line_at.ensures.len)
 
 pub returns : goal.returns
 returns c =

@@ -11,7 +11,7 @@ use Rattle.text.proofs.line.Line.number.Goals as goal
 pub returns : goal.returns
 unfolding digits_in
 returns c =
-    let of = c.of in
+    let of = c.of-digits in
     let bytes = of.result.bytes in
     let from = of.result.from in
     let end : length (drop from bytes) ≤ most_digits - from = omega (arith, length-drop from bytes, of.ensures.whole) in
