@@ -16,14 +16,12 @@ const NAME: usize = 4096;
 // How many arguments there are, the program's own name among them.
 fn count(rt: HostRuntime) -> usize {
     let mut name = [0u8; NAME];
-    let mut n = 0;
-    while n < usize::MAX {
+    for n in 0..usize::MAX {
         if let Err(FillError::NotPresent) = rt.arg(n, &mut name) {
             return n;
         }
-        n += 1;
     }
-    n
+    usize::MAX
 }
 
 // Answers all cases of the file that argument i names; false where a write failed. A name that does not fit the buffer is cut to it,
