@@ -7,7 +7,7 @@ use native.Mathlib.Omega.{arith}
 use lib.Dec.{leb}
 use lib.IntN.{ℤ}
 use Rattle.runs.specs.declared.turn.Turn.{Turn}
-use Rattle.runs.specs.Tick.{Row, runs, Place, doing, runs_in, tick, turn, after_turn}
+use Rattle.runs.specs.Tick.{Row, Place, doing, runs_in, tick, turn, after_turn}
 use Rattle.runs.specs.Windows.{in_window, open_until}
 use Rattle.runs.specs.Round.{Ticked, ended, left_at, watched, told_ticks}
 use Rattle.runs.proofs.Turns.{turn-after}

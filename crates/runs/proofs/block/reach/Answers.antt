@@ -3,7 +3,6 @@ use Prim.Native.Nat.{◌-◌}
 use mathlib.Core.Path.{sym, ◌∙◌}
 use native.Mathlib.Omega.{arith}
 use borrow.Author.Rules.{rules}
-use Rattle.runs.specs.Schedule.{reaches}
 use Rattle.runs.proofs.Halving.{halved-down, halved-up, halvings-less}
 use Rattle.runs.proofs.Blocks.{sorted-reaches, halved-reach}
 use Rattle.runs.proofs.block.reach.Goals as goal

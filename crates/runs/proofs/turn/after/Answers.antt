@@ -6,12 +6,12 @@ use Rattle.runs.proofs.turn.after.Goals as goal
 pub returns-then-rest-gt0 : goal.returns-then-rest-gt0
 returns-then-rest-gt0 c =
     let a = c.args in
-    c.put_left.ensures ∙ turn-ran a.t a.t2 c.left-rest.ensures c.if-t.true
+    c.put_left.ensures ∙ turn-ran a.t a.left c.left-rest.ensures c.if-t.true
 
 pub returns-else-rest-gt0 : goal.returns-else-rest-gt0
 returns-else-rest-gt0 c =
     let a = c.args in
-    turn-kept a.t a.t2 c.left-rest.ensures c.if-t.true c.if-rest-gt0.false
+    turn-kept a.t a.left c.left-rest.ensures c.if-t.true c.if-rest-gt0.false
 
 pub returns-else-t : goal.returns-else-t
-returns-else-t c = let a = c.args in turn-rested a.t a.t2 c.if-t.false
+returns-else-t c = let a = c.args in turn-rested a.t a.left c.if-t.false

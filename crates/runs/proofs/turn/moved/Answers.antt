@@ -1,18 +1,16 @@
 -- `runs::turn::moved` meets its contract: from every row passed it comes to the same position.
-use Prim.Native.Nat.{◌-◌}
 use mathlib.Core.Path.{sym, ◌∙◌}
-use borrow.Author.Tests.{not-true, not-false}
 use Rattle.runs.proofs.Rows.{comes-more, comes-stop, comes-end}
 use Rattle.runs.proofs.turn.moved.Goals as goal
 
 pub returns-then-not-skipped : goal.returns-then-not-skipped
 returns-then-not-skipped c =
-    comes-stop _ _ _ _ c.loop-i-test.true (sym c.skipped.ensures ∙ not-true _ c.if-not-skipped.true)
+    comes-stop _ _ _ _ c.loop-i-test.true (sym c.skipped.ensures ∙ c.if-not-skipped.true)
     ∙ c.loop-i.invariant
 
 pub loop-i-preserved : goal.loop-i-preserved
 loop-i-preserved c =
-    comes-more _ _ _ _ c.loop-i-test.true (sym c.skipped.ensures ∙ not-false _ c.if-not-skipped.false)
+    comes-more _ _ _ _ c.loop-i-test.true (sym c.skipped.ensures ∙ c.if-not-skipped.false)
     ∙ c.loop-i.invariant
 
 pub returns : goal.returns

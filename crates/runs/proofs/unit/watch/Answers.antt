@@ -1,5 +1,4 @@
 -- `runs::unit::watch` meets its contract: after every tick, those left come to what all come to.
-use Prim.Native.Nat.{◌-◌}
 use Rattle.runs.proofs.Watching.{watch-outside, watch-more}
 use Rattle.runs.proofs.unit.watch.Goals as goal
 

@@ -1,8 +1,7 @@
 -- `runs::window::window_end` meets its contract: the search stops at the first window that has the tick.
-use Prim.Native.Nat.{◌-◌}
 use mathlib.Core.Path.{sym, ◌∙◌}
 use Rattle.theory.proofs.Search.{passed_none, passed-more, passed-all}
-use Rattle.runs.specs.Windows.{window_has, in_window}
+use Rattle.runs.specs.Windows.{in_window}
 use Rattle.runs.proofs.Ends.{end_none, end-found}
 use Rattle.runs.proofs.window.window_end.Goals as goal
 
