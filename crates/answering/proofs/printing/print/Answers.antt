@@ -1,10 +1,9 @@
 -- `answering::printing::print` meets its contract: in each turn what some writes have come to, up to a page of which nothing is left.
-use mathlib.Core.Path.{refl, subst}
+use mathlib.Core.Path.{subst}
 use borrow.Author.Rules.{rules}
-use Rattle.std.proofs.Common.{length, ◌≡◌}
 use Rattle.answering.specs.Answer.{answered}
 use Rattle.answering.specs.Writing.{Spread, spread, AfterWrites}
-use Rattle.answering.proofs.Handing.{writes-none, writes_more, pending-less, written-yes, written-no}
+use Rattle.answering.proofs.Handing.{writes_more, pending-less, written-yes, written-no}
 use Rattle.answering.proofs.printing.print.Goals as goal
 
 pub returns-then-n-eq0 : goal.returns-then-n-eq0
