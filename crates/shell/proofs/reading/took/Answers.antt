@@ -14,7 +14,7 @@ use Rattle.intake.specs.Change.{as_bad}
 use Rattle.intake.specs.Line.{Fed, fed, is_decided}
 use Rattle.intake.specs.Bytes.{fed_all, ended_of}
 use Rattle.intake.specs.declared.state.Intake.{Intake}
-use Rattle.shell.specs.Reading.{piece_of, brought, Hearing, hearing, after_read}
+use Rattle.shell.specs.Reading.{piece_of, brought, hearing, after_read}
 use Rattle.shell.proofs.Hearing.{brought-failure, failure-none, brought-bytes, some_bytes}
 use Rattle.shell.proofs.reading.took.Goals as goal
 
