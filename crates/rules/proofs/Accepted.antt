@@ -25,7 +25,8 @@ use Rattle.rules.specs.Timing.{UnitsFit, Whole}
 use Rattle.rules.specs.Verdict.{shape_refusal, table_refusals, program_verdict}
 use Rattle.rules.proofs.Shape.{shape-bars}
 use Rattle.rules.proofs.Fields.{fields-bar}
-use Rattle.rules.proofs.Declared.{task-ports-bar, copies-bar, mode-ports-bar}
+use Rattle.rules.proofs.Declared.{task-ports-bar, mode-ports-bar}
+use Rattle.rules.proofs.Copies.{copies-bar}
 use Rattle.rules.proofs.Modes.{invocations-bar, updates-bar}
 use Rattle.rules.proofs.Timing.{units-bar, whole-bars, units-few, ticks-some}
 

@@ -116,30 +116,6 @@ module _ (T : Tables) where
       joined : RowsJoined (copy_tests T) (copy_rules T)
       joined = (refl, refl, λ d h w. guard-bars d, (omega arith, tt), (refl, refl, λ c h w. copy-bars c, tt, tt))
 
-  -- number 4 bars guards and copies that name no private port, and copies of which no two of a driver have one destination
-  pub copies-bar : Bars (copies_bad T) (Copies T)
-  copies-bar =
-      bars-rows (copy_tests T) (copy_rules T) copies-rowed
-      (λ (f, (g, _)).
-      record {
-        no-private-guard = f;
-        no-private-source = λ c h. (g c h).no-private-source;
-        no-private-destination = λ c h. (g c h).no-private-destination;
-        apart = λ b c l h. (g c h).apart b l;
-      })
-      (λ s. (
-        s.no-private-guard,
-        (
-          λ c h.
-              record {
-                no-private-source = s.no-private-source c h;
-                no-private-destination = s.no-private-destination c h;
-                apart = λ b l. s.apart b c l h;
-              },
-          tt,
-        ),
-      ))
-
   -- the test of a mode port row bars what rule 5 asks of it
   mode-port-bars : (k : ℕ) → Bars (mode_port_clash T k) (ModePortRow T k)
   unfolding mode_port_clash mode_port_at

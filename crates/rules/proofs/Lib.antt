@@ -2,9 +2,11 @@
 pub mod Shape
 pub mod Fields
 pub mod Declared
+pub mod Copies
 pub mod Some
 pub mod Modes
 pub mod Timing
 pub mod Missing
+pub mod Gap
 pub mod Verdict
 pub mod Accepted

@@ -3,7 +3,7 @@
 use Prim.Native.Nat.{ℕ, ◌<◌}
 use mathlib.Core.Path.{◌≡◌, refl, sym, ap, subst, ◌∙◌}
 use mathlib.Core.Bool.{Bool, true, false}
-use mathlib.Core.Logic.{◌↔◌, ⊎_elim}
+use mathlib.Core.Logic.{⊎_elim}
 use native.Mathlib.Omega.{arith}
 use lib.Dec.{eqb}
 use lib.IntN.{ℤ}
@@ -136,7 +136,3 @@ module _ (T : Tables) where
         let within = (inside-says (guard_low T d) no_reading (guard_high T d)).yes holding in
         let alone = missing-alone f d (f.switches o.row o.of-mode.in_table).driver a.guard within in
         (o.row, o.of-mode, record { looks = a; low = alone.0; high = alone.1 })
-
-    -- under rules 2 and 8, rule 24 is that a missing reading satisfies the guard of exactly one switch
-    pub gap-iff : NoGap T ↔ MissingMet T
-    gap-iff = (gap-met, met-gap)

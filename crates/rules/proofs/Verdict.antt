@@ -16,10 +16,12 @@ use Rattle.rules.specs.Missing.{NoGap, MissingMet}
 use Rattle.rules.specs.Verdict.{shape_refusal, table_refusals, program_verdict, program_answer, published_rules, program_rules}
 use Rattle.rules.proofs.Shape.{shape-bars}
 use Rattle.rules.proofs.Fields.{fields-bar, fields-rowed}
-use Rattle.rules.proofs.Declared.{task-ports-bar, task-ports-rowed, copies-bar, copies-rowed, mode-ports-bar, mode-ports-rowed}
+use Rattle.rules.proofs.Declared.{task-ports-bar, task-ports-rowed, copies-rowed, mode-ports-bar, mode-ports-rowed}
+use Rattle.rules.proofs.Copies.{copies-bar}
 use Rattle.rules.proofs.Modes.{invocations-bar, invocations-rowed, updates-bar, updates-rowed, switches-bar, switches-rowed}
 use Rattle.rules.proofs.Timing.{units-bar, units-rowed, whole-bars, whole-rowed}
-use Rattle.rules.proofs.Missing.{gap-bars, missing-alone, gap-iff}
+use Rattle.rules.proofs.Missing.{gap-bars, missing-alone}
+use Rattle.rules.proofs.Gap.{gap-iff}
 
 module _ (T : Tables) where
   -- each test of the verdict bars the rule of its number where the earlier rules hold
