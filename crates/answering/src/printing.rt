@@ -7,17 +7,18 @@ ghost use Rattle.answering.specs.Writing.{spread, page_of, rest_of, Printed};
 use crate::answer::Shown;
 use crate::pages;
 use crate::pages::Sheet;
+use std::io::Write;
 
 // What is left of a page is handed to one write. How many bytes it took is returned, 0 where it failed.
-fn hand(output: i32, sheet: Sheet, buffer: &[u8]) -> usize
+fn hand<W: Write>(output: &mut W, sheet: Sheet, buffer: &[u8]) -> usize
     ensures { result ≤ length (rest_of (spread sheet buffer.now)) }
 {
     let bytes = pages::rest(sheet, buffer);
-    io::count(libc::write(output, bytes), bytes)
+    streams::count(streams::write_some(output, bytes), bytes)
 }
 
 // An answer is printed. Whether all of it was written is returned.
-pub fn print(output: i32, shown: Shown, code: &[u32], buffer: &mut [u8]) -> bool
+pub fn print<W: Write>(output: &mut W, shown: Shown, code: &[u32], buffer: &mut [u8]) -> bool
     requires { room ≤ length buffer.old }
     ensures { Printed (answered shown code.now)
         (page_of (answered shown code.now) false 0 buffer.old) result buffer.new }

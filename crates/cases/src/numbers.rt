@@ -1,6 +1,6 @@
 // Numbers, one a line. A line that is none, or is missing, leaves the reader refused; a refused reader reads nothing more.
 use crate::stream;
-use crate::stream::Reader;
+use crate::stream::{Reader, Source};
 use cells::table;
 
 // A signed number that was read.
@@ -25,14 +25,14 @@ pub struct Amount {
 }
 
 // Reads a signed number.
-pub fn signed(r: Reader, buffer: &mut [u8]) -> Number {
+pub fn signed(r: Reader, source: &mut Source) -> Number {
     if !r.ok {
         return Number {
             reader: r,
             value: 0,
         };
     }
-    let line = stream::next(r, buffer);
+    let line = stream::next(r, source);
     let number = line.part.signed();
     let mut reader = line.reader;
     if line.ended | !number.ok {
@@ -45,14 +45,14 @@ pub fn signed(r: Reader, buffer: &mut [u8]) -> Number {
 }
 
 // Reads a number without a sign.
-pub fn unsigned(r: Reader, buffer: &mut [u8]) -> Natural {
+pub fn unsigned(r: Reader, source: &mut Source) -> Natural {
     if !r.ok {
         return Natural {
             reader: r,
             value: 0,
         };
     }
-    let line = stream::next(r, buffer);
+    let line = stream::next(r, source);
     let number = line.part.word();
     let mut reader = line.reader;
     if line.ended | !number.ok {
@@ -65,8 +65,8 @@ pub fn unsigned(r: Reader, buffer: &mut [u8]) -> Natural {
 }
 
 // Reads a count of what follows; one below 0 is refused.
-pub fn count(r: Reader, buffer: &mut [u8]) -> Amount {
-    let number = signed(r, buffer);
+pub fn count(r: Reader, source: &mut Source) -> Amount {
+    let number = signed(r, source);
     let reader = number.reader;
     if number.value < 0 {
         return Amount {
@@ -81,11 +81,11 @@ pub fn count(r: Reader, buffer: &mut [u8]) -> Amount {
 }
 
 // Reads the end of the file; the reader is refused where a line follows.
-pub fn finish(r: Reader, buffer: &mut [u8]) -> Reader {
+pub fn finish(r: Reader, source: &mut Source) -> Reader {
     if !r.ok {
         return r;
     }
-    let line = stream::next(r, buffer);
+    let line = stream::next(r, source);
     let mut reader = line.reader;
     if !line.ended {
         reader.ok = false;

@@ -1,7 +1,7 @@
 // Lines that are printed, and what became of a case. Each function answers whether all of it was written.
 use crate::stream::Reader;
 use cells::table;
-use libc::STDOUT_FILENO;
+use std::io::Stdout;
 use theory::Answer;
 
 // What became of a case: whether its kind is known, and whether its line could be written.
@@ -13,61 +13,61 @@ pub struct Outcome {
 }
 
 // Prints a number's digits.
-fn digits(n: usize) -> bool {
-    io::print_decimal(STDOUT_FILENO, n as u64)
+fn digits(output: Stdout, n: usize) -> bool {
+    output.print(n).is_ok()
 }
 
 // Prints a space and a number's digits.
-pub fn after_space(n: usize) -> bool {
-    if !io::write_all(STDOUT_FILENO, b" ") {
+pub fn after_space(output: Stdout, n: usize) -> bool {
+    if output.write_all(b" ").is_err() {
         return false;
     }
-    digits(n)
+    digits(output, n)
 }
 
 // Prints a space and a signed number's digits; of the least one of 32 bits too.
-pub fn signed_after_space(n: i32) -> bool {
+pub fn signed_after_space(output: Stdout, n: i32) -> bool {
     if n < 0 {
-        if !io::write_all(STDOUT_FILENO, b" -") {
+        if output.write_all(b" -").is_err() {
             return false;
         }
         let less = 0 - (n + 1);
-        return digits(table::index(less) + 1);
+        return digits(output, table::index(less) + 1);
     }
-    after_space(table::index(n))
+    after_space(output, table::index(n))
 }
 
 // Prints the end of a line.
-pub fn line_end() -> bool {
-    io::write_all(STDOUT_FILENO, b"\n")
+pub fn line_end(output: Stdout) -> bool {
+    output.write_all(b"\n").is_ok()
 }
 
 // Prints an answer: its number, then its place, two numbers each after a space.
-pub fn answer(x: Answer) -> bool {
-    if !digits(x.number) {
+pub fn answer(output: Stdout, x: Answer) -> bool {
+    if !digits(output, x.number) {
         return false;
     }
-    if !after_space(x.outer) {
+    if !after_space(output, x.outer) {
         return false;
     }
-    after_space(x.inner)
+    after_space(output, x.inner)
 }
 
 // Prints an answer on a line of its own.
-pub fn answer_line(x: Answer) -> bool {
-    if !answer(x) {
+pub fn answer_line(output: Stdout, x: Answer) -> bool {
+    if !answer(output, x) {
         return false;
     }
-    line_end()
+    line_end(output)
 }
 
 // Prints on a line what is to be said of a file, and its name.
-pub fn say(what: &[u8], name: &[u8]) -> bool {
-    if !io::write_all(STDOUT_FILENO, what) {
+pub fn say(output: Stdout, what: &[u8], name: &[u8]) -> bool {
+    if output.write_all(what).is_err() {
         return false;
     }
-    if !io::write_all(STDOUT_FILENO, name) {
+    if output.write_all(name).is_err() {
         return false;
     }
-    line_end()
+    line_end(output)
 }

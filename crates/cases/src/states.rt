@@ -1,6 +1,6 @@
 // A state of the machine out of numbers.
 use crate::numbers;
-use crate::stream::Reader;
+use crate::stream::{Reader, Source};
 use cells::limits::Program;
 use cells::table;
 use machine::State;
@@ -13,11 +13,11 @@ pub struct Standing {
 }
 
 // Reads as many values as there is room for.
-fn values(r: Reader, buffer: &mut [u8], out: &mut [i32]) -> Reader {
+fn values(r: Reader, source: &mut Source, out: &mut [i32]) -> Reader {
     let mut reader = r;
     let mut i = 0;
     while i < out.len() {
-        let number = numbers::signed(reader, buffer);
+        let number = numbers::signed(reader, source);
         reader = number.reader;
         table::put_value(out, i, number.value);
         i += 1;
@@ -26,17 +26,17 @@ fn values(r: Reader, buffer: &mut [u8], out: &mut [i32]) -> Reader {
 }
 
 // Reads the port values, then the local outputs.
-fn both(r: Reader, buffer: &mut [u8], ports: &mut [i32], outputs: &mut [i32]) -> Reader {
-    let with_ports = values(r, buffer, ports);
-    values(with_ports, buffer, outputs)
+fn both(r: Reader, source: &mut Source, ports: &mut [i32], outputs: &mut [i32]) -> Reader {
+    let with_ports = values(r, source, ports);
+    values(with_ports, source, outputs)
 }
 
 // Reads as many counts as there is room for.
-fn counts(r: Reader, buffer: &mut [u8], out: &mut [usize]) -> Reader {
+fn counts(r: Reader, source: &mut Source, out: &mut [usize]) -> Reader {
     let mut reader = r;
     let mut i = 0;
     while i < out.len() {
-        let number = numbers::unsigned(reader, buffer);
+        let number = numbers::unsigned(reader, source);
         reader = number.reader;
         out[i] = number.value as usize;
         i += 1;
@@ -53,9 +53,9 @@ struct Pair {
 }
 
 // Reads two counts, one after the other.
-fn two(r: Reader, buffer: &mut [u8]) -> Pair {
-    let first = numbers::unsigned(r, buffer);
-    let second = numbers::unsigned(first.reader, buffer);
+fn two(r: Reader, source: &mut Source) -> Pair {
+    let first = numbers::unsigned(r, source);
+    let second = numbers::unsigned(first.reader, source);
     let reader = second.reader;
     Pair {
         reader,
@@ -74,10 +74,10 @@ struct Moment {
 }
 
 // Reads a moment: time stamp, pending and current address, elapsed and remaining ticks.
-fn read_moment(r: Reader, buffer: &mut [u8]) -> Moment {
-    let time = numbers::unsigned(r, buffer);
-    let addresses = two(time.reader, buffer);
-    let ticks = two(addresses.reader, buffer);
+fn read_moment(r: Reader, source: &mut Source) -> Moment {
+    let time = numbers::unsigned(r, source);
+    let addresses = two(time.reader, source);
+    let ticks = two(addresses.reader, source);
     let reader = ticks.reader;
     Moment {
         reader,
@@ -88,15 +88,15 @@ fn read_moment(r: Reader, buffer: &mut [u8]) -> Moment {
 }
 
 // Reads a state: port values, local outputs, the moment, remaining times by task, positions by supplier.
-pub fn state(r: Reader, buffer: &mut [u8]) -> Standing {
+pub fn state(r: Reader, source: &mut Source) -> Standing {
     let mut ports = [0; Program::PORTS];
     let mut outputs = [0; Program::PORTS];
     let mut left = [0usize; Program::TASKS];
     let mut positions = [0usize; Program::SUPPLIERS];
-    let with_values = both(r, buffer, &mut ports, &mut outputs);
-    let m = read_moment(with_values, buffer);
-    let with_left = counts(m.reader, buffer, &mut left);
-    let reader = counts(with_left, buffer, &mut positions);
+    let with_values = both(r, source, &mut ports, &mut outputs);
+    let m = read_moment(with_values, source);
+    let with_left = counts(m.reader, source, &mut left);
+    let reader = counts(with_left, source, &mut positions);
     let addresses = m.addresses;
     let ticks = m.ticks;
     let state = State {

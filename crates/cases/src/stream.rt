@@ -1,15 +1,26 @@
-// A stream of lines, read through a buffer that the caller lends to each call.
+// A stream of lines, read out of a file through a buffer that goes with it.
+use std::fs::File;
+use std::io::{Error, Read};
 use text::number::Part;
 
+// How many bytes of a file are read at once at most.
+const PIECE: usize = 4096;
+
+// An open file, the buffer that it is read through, and why the system refused a read, where it did.
+#[derive(Drop)]
+pub struct Source {
+    file: File,
+    buffer: [u8; PIECE],
+    pub error: Option<Error>,
+}
+
 // What was read of a file and where its next byte stands in the buffer. It is `ok` until something that had to stand there did
-// not; `failed` where that was a read that the system refused.
+// not, or a read was refused by the system.
 #[derive(Clone, Copy)]
 pub struct Reader {
-    pub fd: i32,
     pub at: usize,
     pub len: usize,
     pub ok: bool,
-    pub failed: bool,
 }
 
 // A line that was read: its bytes as a number, or `ended` where no byte was left.
@@ -20,14 +31,23 @@ pub struct Line {
     pub ended: bool,
 }
 
+impl Source {
+    // An open file, before its first byte is read.
+    pub fn new(file: File) -> Source {
+        Source {
+            file,
+            buffer: [0; PIECE],
+            error: None,
+        }
+    }
+}
+
 // A reader of a file, before its first byte.
-pub fn open(fd: i32) -> Reader {
+pub fn open() -> Reader {
     Reader {
-        fd,
         at: 0,
         len: 0,
         ok: true,
-        failed: false,
     }
 }
 
@@ -39,17 +59,19 @@ pub fn refused(r: Reader) -> Reader {
 }
 
 // Reads on where all bytes of the buffer are used up. With nothing left to read, there is no next byte either.
-fn filled(r: Reader, buffer: &mut [u8]) -> Reader {
+fn filled(r: Reader, source: &mut Source) -> Reader {
     if r.at < r.len {
         return r;
     }
-    let got = libc::read(r.fd, buffer);
     let mut after = r;
     after.at = 0;
-    after.len = io::count(got, buffer);
-    if got < 0 {
-        after.ok = false;
-        after.failed = true;
+    match source.file.read(&mut source.buffer) {
+        Ok(n) => after.len = n,
+        Err(e) => {
+            source.error = Some(e);
+            after.len = 0;
+            after.ok = false;
+        }
     }
     after
 }
@@ -63,13 +85,13 @@ fn byte(buffer: &[u8], at: usize) -> u8 {
 }
 
 // Reads the next line; the last line end may be missing. A line of more bytes than can be counted is no number.
-pub fn next(r: Reader, buffer: &mut [u8]) -> Line {
+pub fn next(r: Reader, source: &mut Source) -> Line {
     let mut reader = r;
     let mut part = Part::new();
     let mut ended = true;
     let mut turns = u64::MAX;
     while turns > 0 {
-        reader = filled(reader, buffer);
+        reader = filled(reader, source);
         let at = reader.at;
         if reader.len <= at {
             return Line {
@@ -80,7 +102,7 @@ pub fn next(r: Reader, buffer: &mut [u8]) -> Line {
         }
         reader.at = at + 1;
         ended = false;
-        let b = byte(buffer, at);
+        let b = byte(&source.buffer, at);
         if b == b'\n' {
             return Line {
                 reader,

@@ -1,7 +1,7 @@
 // Slices of numbers and of words, and the ten tables of a program: as much of each as there is room for.
 ghost use Rattle.std.specs.Prelude.{◌≤◌, length};
 
-use crate::stream::Reader;
+use crate::stream::{Reader, Source};
 use crate::{numbers, room};
 use cells::limits::Program;
 use cells::parts::{least, part};
@@ -25,18 +25,18 @@ pub struct Lengths {
 // Reads the next number and puts it at a place: among the values if it is `signed`, else among the words.
 fn put_next(
     r: Reader,
-    buffer: &mut [u8],
+    source: &mut Source,
     at: usize,
     values: &mut [i32],
     words: &mut [u32],
     signed: bool,
 ) -> Reader {
     if signed {
-        let number = numbers::signed(r, buffer);
+        let number = numbers::signed(r, source);
         table::put_value(values, at, number.value);
         return number.reader;
     }
-    let number = numbers::unsigned(r, buffer);
+    let number = numbers::unsigned(r, source);
     table::put(words, at, number.value as usize);
     number.reader
 }
@@ -44,7 +44,7 @@ fn put_next(
 // Reads the n numbers of a slice, as many as there is room for: values if they are `signed`, else words.
 fn fill(
     r: Reader,
-    buffer: &mut [u8],
+    source: &mut Source,
     n: usize,
     values: &mut [i32],
     words: &mut [u32],
@@ -53,7 +53,7 @@ fn fill(
     let mut reader = r;
     let mut i = 0;
     while i < n {
-        reader = put_next(reader, buffer, i, values, words, signed);
+        reader = put_next(reader, source, i, values, words, signed);
         if !reader.ok {
             return reader;
         }
@@ -76,42 +76,42 @@ fn cut(reader: Reader, n: usize, room: usize) -> Kept
 }
 
 // Reads a slice of values: its length, then its numbers.
-pub fn slice(r: Reader, buffer: &mut [u8], out: &mut [i32]) -> Kept
+pub fn slice(r: Reader, source: &mut Source, out: &mut [i32]) -> Kept
     ensures { result.len ≤ length out.new }
 {
     let mut none = [0u32; 1];
-    let amount = numbers::count(r, buffer);
-    let reader = fill(amount.reader, buffer, amount.value, out, &mut none, true);
+    let amount = numbers::count(r, source);
+    let reader = fill(amount.reader, source, amount.value, out, &mut none, true);
     cut(reader, amount.value, out.len())
 }
 
 // Reads a slice of words of E code: its length, then its words.
-pub fn words(r: Reader, buffer: &mut [u8], out: &mut [u32]) -> Kept
+pub fn words(r: Reader, source: &mut Source, out: &mut [u32]) -> Kept
     ensures { result.len ≤ length out.new }
 {
     let mut none = [0i32; 1];
-    let amount = numbers::count(r, buffer);
-    let reader = fill(amount.reader, buffer, amount.value, &mut none, out, false);
+    let amount = numbers::count(r, source);
+    let reader = fill(amount.reader, source, amount.value, &mut none, out, false);
     cut(reader, amount.value, out.len())
 }
 
 // Reads a slice into its place in the room, from `at` up to `next`, where the next one begins.
-fn placed(r: Reader, buffer: &mut [u8], room: &mut [i32], at: usize, next: usize) -> Kept {
+fn placed(r: Reader, source: &mut Source, room: &mut [i32], at: usize, next: usize) -> Kept {
     let end = least(next, room.len());
     let from = least(at, end);
-    slice(r, buffer, &mut room[from..end])
+    slice(r, source, &mut room[from..end])
 }
 
 // Reads a program: its start mode, then its ten tables, each into its place in the room.
-pub fn program(r: Reader, buffer: &mut [u8], room: &mut [i32]) -> Lengths {
-    let start = numbers::signed(r, buffer);
+pub fn program(r: Reader, source: &mut Source, room: &mut [i32]) -> Lengths {
+    let start = numbers::signed(r, source);
     let mut reader = start.reader;
     let mut len = [0; Program::TABLES];
     let mut at = 0;
     let mut i = 0;
     while i < Program::TABLES {
         let next = room::ENDS[i];
-        let kept = placed(reader, buffer, room, at, next);
+        let kept = placed(reader, source, room, at, next);
         reader = kept.reader;
         at = next;
         len[i] = kept.len;

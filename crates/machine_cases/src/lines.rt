@@ -1,12 +1,13 @@
 // An answer and the state handed back, as a line. Each function answers whether all of it was written.
 use cases::out;
 use machine::{Handed, State};
+use std::io::Stdout;
 
 // Prints values, each after a space.
-fn values(all: &[i32]) -> bool {
+fn values(output: Stdout, all: &[i32]) -> bool {
     let mut i = 0;
     while i < all.len() {
-        if !out::signed_after_space(all[i]) {
+        if !out::signed_after_space(output, all[i]) {
             return false;
         }
         i += 1;
@@ -15,10 +16,10 @@ fn values(all: &[i32]) -> bool {
 }
 
 // Prints counts, each after a space.
-fn counts(all: &[usize]) -> bool {
+fn counts(output: Stdout, all: &[usize]) -> bool {
     let mut i = 0;
     while i < all.len() {
-        if !out::after_space(all[i]) {
+        if !out::after_space(output, all[i]) {
             return false;
         }
         i += 1;
@@ -27,46 +28,46 @@ fn counts(all: &[usize]) -> bool {
 }
 
 // Prints the moment of a state: time stamp, the two addresses, elapsed and remaining ticks.
-fn moment(s: State) -> bool {
-    if !out::after_space(s.time as usize) {
+fn moment(output: Stdout, s: State) -> bool {
+    if !out::after_space(output, s.time as usize) {
         return false;
     }
-    if !out::after_space(s.pending) {
+    if !out::after_space(output, s.pending) {
         return false;
     }
-    if !out::after_space(s.current) {
+    if !out::after_space(output, s.current) {
         return false;
     }
-    if !out::after_space(s.elapsed) {
+    if !out::after_space(output, s.elapsed) {
         return false;
     }
-    out::after_space(s.remaining)
+    out::after_space(output, s.remaining)
 }
 
 // Prints an answer and the state handed back with it, on a line.
-pub fn line(a: Handed) -> bool {
+pub fn line(output: Stdout, a: Handed) -> bool {
     let state = a.state;
     let ports = state.ports;
     let outputs = state.outputs;
     let left = state.left;
     let positions = state.positions;
-    if !out::answer(a.answer) {
+    if !out::answer(output, a.answer) {
         return false;
     }
-    if !values(&ports) {
+    if !values(output, &ports) {
         return false;
     }
-    if !values(&outputs) {
+    if !values(output, &outputs) {
         return false;
     }
-    if !moment(state) {
+    if !moment(output, state) {
         return false;
     }
-    if !counts(&left) {
+    if !counts(output, &left) {
         return false;
     }
-    if !counts(&positions) {
+    if !counts(output, &positions) {
         return false;
     }
-    out::line_end()
+    out::line_end(output)
 }

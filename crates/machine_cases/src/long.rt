@@ -3,12 +3,13 @@
 use crate::systems::{System, TickSlices};
 use crate::{lines, systems};
 use cases::out::Outcome;
-use cases::stream::Reader;
+use cases::stream::{Reader, Source};
 use cases::tables::Lengths;
 use cases::{numbers, room};
 use cells::parts::part;
 use cells::refusals;
 use machine::{Handed, State};
+use std::io::Stdout;
 
 // Steps so many ticks of a system that was read, all lent the same, up to the first that is refused.
 fn ticks(
@@ -48,13 +49,13 @@ struct Alike {
 // Reads how many ticks a case has, and what is lent to each.
 fn read_alike(
     r: Reader,
-    buffer: &mut [u8],
+    source: &mut Source,
     readings: &mut [i32],
     results: &mut [i32],
     times: &mut [i32],
 ) -> Alike {
-    let amount = numbers::count(r, buffer);
-    let slices = systems::read_slices(amount.reader, buffer, readings, results, times);
+    let amount = numbers::count(r, source);
+    let slices = systems::read_slices(amount.reader, source, readings, results, times);
     Alike {
         count: amount.value,
         slices,
@@ -71,7 +72,7 @@ struct Long {
 // Reads a case: its system, then its ticks.
 fn read_case(
     r: Reader,
-    buffer: &mut [u8],
+    source: &mut Source,
     room: &mut [i32],
     code: &mut [u32],
     rows: &mut [i32],
@@ -79,13 +80,14 @@ fn read_case(
     results: &mut [i32],
     times: &mut [i32],
 ) -> Long {
-    let system = systems::read_system(r, buffer, room, code, rows);
-    let alike = read_alike(system.reader, buffer, readings, results, times);
+    let system = systems::read_system(r, source, room, code, rows);
+    let alike = read_alike(system.reader, source, readings, results, times);
     Long { system, alike }
 }
 
 // Writes the line of a case that was read; false where it could not be written. A refused reader has no line.
 fn judged(
+    output: Stdout,
     a: Long,
     room: &[i32],
     code: &[u32],
@@ -103,22 +105,25 @@ fn judged(
     let system = a.system;
     let program = system.program;
     let state = system.state;
-    lines::line(ticks(
-        alike.count,
-        program,
-        room,
-        systems::kept(code, system.code),
-        part(rows, 0, system.rows),
-        state,
-        slices,
-        readings,
-        results,
-        times,
-    ))
+    lines::line(
+        output,
+        ticks(
+            alike.count,
+            program,
+            room,
+            systems::kept(code, system.code),
+            part(rows, 0, system.rows),
+            state,
+            slices,
+            readings,
+            results,
+            times,
+        ),
+    )
 }
 
 // Answers a case of the kind `long`.
-pub fn case(r: Reader, buffer: &mut [u8]) -> Outcome {
+pub fn case(output: Stdout, r: Reader, source: &mut Source) -> Outcome {
     let mut room = [0i32; room::ALL];
     let mut code = [0u32; room::CODE];
     let mut rows = [0i32; room::SCHEDULE];
@@ -127,7 +132,7 @@ pub fn case(r: Reader, buffer: &mut [u8]) -> Outcome {
     let mut times = [0i32; room::BY_TASK];
     let a = read_case(
         r,
-        buffer,
+        source,
         &mut room,
         &mut code,
         &mut rows,
@@ -135,7 +140,7 @@ pub fn case(r: Reader, buffer: &mut [u8]) -> Outcome {
         &mut results,
         &mut times,
     );
-    let written = judged(a, &room, &code, &rows, &readings, &results, &times);
+    let written = judged(output, a, &room, &code, &rows, &readings, &results, &times);
     let alike = a.alike;
     let slices = alike.slices;
     let reader = slices.reader;

@@ -1,5 +1,5 @@
 // What the kinds of the machine read: a program, E code, joined schedule and state; and what is lent to a tick.
-use cases::stream::Reader;
+use cases::stream::{Reader, Source};
 use cases::tables::Lengths;
 use cases::{states, tables};
 use cells::parts::{least, part};
@@ -33,9 +33,9 @@ struct Listed {
 }
 
 // Reads the E code, then the joined schedule.
-fn read_code(r: Reader, buffer: &mut [u8], code: &mut [u32], rows: &mut [i32]) -> Listed {
-    let own_code = tables::words(r, buffer, code);
-    let own_rows = tables::slice(own_code.reader, buffer, rows);
+fn read_code(r: Reader, source: &mut Source, code: &mut [u32], rows: &mut [i32]) -> Listed {
+    let own_code = tables::words(r, source, code);
+    let own_rows = tables::slice(own_code.reader, source, rows);
     let reader = own_rows.reader;
     Listed {
         reader,
@@ -47,14 +47,14 @@ fn read_code(r: Reader, buffer: &mut [u8], code: &mut [u32], rows: &mut [i32]) -
 // Reads a system: program, E code, joined schedule and state.
 pub fn read_system(
     r: Reader,
-    buffer: &mut [u8],
+    source: &mut Source,
     room: &mut [i32],
     code: &mut [u32],
     rows: &mut [i32],
 ) -> System {
-    let program = tables::program(r, buffer, room);
-    let listed = read_code(program.reader, buffer, code, rows);
-    let standing = states::state(listed.reader, buffer);
+    let program = tables::program(r, source, room);
+    let listed = read_code(program.reader, source, code, rows);
+    let standing = states::state(listed.reader, source);
     let reader = standing.reader;
     let state = standing.state;
     System {
@@ -69,14 +69,14 @@ pub fn read_system(
 // Reads what is lent to a tick: readings, results and times, each with its length before it.
 pub fn read_slices(
     r: Reader,
-    buffer: &mut [u8],
+    source: &mut Source,
     readings: &mut [i32],
     results: &mut [i32],
     times: &mut [i32],
 ) -> TickSlices {
-    let own_readings = tables::slice(r, buffer, readings);
-    let own_results = tables::slice(own_readings.reader, buffer, results);
-    let own_times = tables::slice(own_results.reader, buffer, times);
+    let own_readings = tables::slice(r, source, readings);
+    let own_results = tables::slice(own_readings.reader, source, results);
+    let own_times = tables::slice(own_results.reader, source, times);
     let reader = own_times.reader;
     TickSlices {
         reader,

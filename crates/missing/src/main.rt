@@ -2,37 +2,55 @@
 #![tactic(auto)]
 
 use readings::Reading;
+use std::io;
+use std::io::Stdout;
 
 // Prints on a line whether an interval holds a value; the texts are those of the value and of the interval.
-fn line(value: i32, number: &[u8], low: i32, high: i32, interval: &[u8]) {
+fn line(
+    output: Stdout,
+    value: i32,
+    number: &[u8],
+    low: i32,
+    high: i32,
+    interval: &[u8],
+) -> io::Result<()> {
     if Reading(value).is_missing() {
-        io::write_all(1, b"no reading");
+        output.write_all(b"no reading")?;
     } else {
-        io::write_all(1, b"reading ");
-        io::write_all(1, number);
+        output.write_all(b"reading ")?;
+        output.write_all(number)?;
     }
-    io::write_all(1, b", interval ");
-    io::write_all(1, interval);
+    output.write_all(b", interval ")?;
+    output.write_all(interval)?;
     if Reading(value).within(low, high) {
-        io::write_all(1, b": inside\n");
+        output.write_all(b": inside\n")
     } else {
-        io::write_all(1, b": outside\n");
+        output.write_all(b": outside\n")
     }
 }
 
 // Holds three readings against one interval: a small one, none, and the largest.
-fn three(low: i32, high: i32, interval: &[u8]) {
-    line(5, b"5", low, high, interval);
-    line(Reading::NO_READING, b"-2147483648", low, high, interval);
-    line(2147483647, b"2147483647", low, high, interval);
+fn three(output: Stdout, low: i32, high: i32, interval: &[u8]) -> io::Result<()> {
+    line(output, 5, b"5", low, high, interval)?;
+    line(
+        output,
+        Reading::NO_READING,
+        b"-2147483648",
+        low,
+        high,
+        interval,
+    )?;
+    line(output, 2147483647, b"2147483647", low, high, interval)
 }
 
-fn main() {
-    three(0, 9, b"0..9");
-    three(-2147483647, 2147483647, b"-2147483647..2147483647");
+fn main(rt: HostRuntime) -> io::Result<()> {
+    let output = rt.stdout();
+    three(output, 0, 9, b"0..9")?;
+    three(output, -2147483647, 2147483647, b"-2147483647..2147483647")?;
     three(
+        output,
         Reading::NO_READING,
         Reading::NO_READING,
         b"-2147483648..-2147483648",
-    );
+    )
 }

@@ -8,7 +8,7 @@ use borrow.Author.Tests.{ltb-true}
 use lib.IntN.{ℤ, pos, negsuc}
 use lib.Signed.{lt_z}
 use lib.ListN.{length, take}
-use Rattle.io.specs.Counts.{clamp_len}
+use Rattle.streams.specs.Counts.{clamp_len}
 use Rattle.theory.proofs.Conditions.{cond_yes, cond_no}
 use Rattle.theory.proofs.Bools.{clash}
 use Rattle.intake.specs.Line.{Fed}

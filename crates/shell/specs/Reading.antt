@@ -1,7 +1,7 @@
 -- What reading comes to, whatever reads bring: after each read what is known of the text, and whether the program reads on.
 use Rattle.std.specs.Prelude.{ℕ, zero, suc, ◌≡◌, Bool, true, false, not, cond, List, [], ◌∷◌, ℤ, pos, length, take}
 use Rattle.std.specs.Int.Signed.{lt_z}
-use Rattle.io.specs.Counts.{clamp_len}
+use Rattle.streams.specs.Counts.{clamp_len}
 use Rattle.intake.specs.Change.{start_intake, as_bad}
 use Rattle.intake.specs.Line.{Fed, fed, is_decided}
 use Rattle.intake.specs.Bytes.{fed_all, ended_of}

@@ -1,4 +1,4 @@
-// The body of the shipped program: reads a program from one descriptor, compiles it, and prints on another.
+// The body of the shipped program: reads a program from a reader, compiles it, and prints on a writer.
 #![tactic(auto)]
 
 ghost use Rattle.std.specs.Prelude.{◌≤◌, ◌≡◌, length};
@@ -8,11 +8,18 @@ ghost use Rattle.answering.specs.Answer.{blank};
 ghost use Rattle.shell.specs.Running.{Ran};
 
 use answering::{answer, memory, printing};
+use std::io::{Read, Write};
 
 mod reading;
 
 // The program runs in lent memory; nothing is printed before all of it is decided. Whether all of it was written is returned.
-fn ran(input: i32, output: i32, tables: &mut [i32], code: &mut [u32], buffer: &mut [u8]) -> bool
+fn ran<R: Read, W: Write>(
+    input: &mut R,
+    output: &mut W,
+    tables: &mut [i32],
+    code: &mut [u32],
+    buffer: &mut [u8],
+) -> bool
     requires roomy { Roomy tables.old }
     requires code_value { code.old ≡ blank }
     requires room_in_bounds { room ≤ length buffer.old }
@@ -24,7 +31,7 @@ fn ran(input: i32, output: i32, tables: &mut [i32], code: &mut [u32], buffer: &m
 }
 
 // The program runs in memory of its own. Whether all of its answer was written is returned.
-pub fn run(input: i32, output: i32) -> bool {
+pub fn run<R: Read, W: Write>(input: &mut R, output: &mut W) -> bool {
     let mut tables = intake::shape::empty_room();
     let mut code = memory::blank_code();
     let mut buffer = memory::empty_buffer();

@@ -5,6 +5,7 @@ ghost use Rattle.intake.specs.Exact.{Roomy};
 ghost use Rattle.shell.specs.Reading.{brought, hearing, after_read, AfterSome};
 
 use intake::state::Intake;
+use std::io::Read;
 
 // After one read: what is known of the text, and whether the program reads on.
 #[derive(Clone, Copy)]
@@ -19,7 +20,7 @@ fn took(i: Intake, got: isize, buffer: &[u8], room: &mut [i32]) -> Piece
     ensures { hearing (fed result.intake room.new) result.more
         ≡ after_read (fed i room.old) (brought got buffer.now) }
 {
-    let n = io::count(got, buffer);
+    let n = streams::count(got, buffer);
     let intake = i.feed_all(&buffer[..n], room);
     if got < 0 {
         return Piece {
@@ -42,14 +43,14 @@ fn took(i: Intake, got: isize, buffer: &[u8], room: &mut [i32]) -> Piece
 }
 
 // What is known of the text after the whole input. An input of more pieces than can be counted is as one that fails.
-pub fn heard(input: i32, buffer: &mut [u8], room: &mut [i32]) -> Intake
+pub fn heard<R: Read>(input: &mut R, buffer: &mut [u8], room: &mut [i32]) -> Intake
     requires { Roomy room.old }
     ensures { AfterSome room.old (hearing (fed result room.new) false) }
 {
     let mut intake = Intake::new();
     let mut turns = u64::MAX;
     while turns > 0 {
-        let got = libc::read(input, buffer);
+        let got = streams::read_some(input, buffer);
         let next = took(intake, got, buffer, room);
         intake = next.intake;
         if !next.more {

@@ -2,11 +2,10 @@
 // Where these could not be written whole, a line on standard error says so.
 #![tactic(auto)]
 
-fn main() {
-    if !shell::run(libc::STDIN_FILENO, libc::STDOUT_FILENO) {
-        libc::write(
-            libc::STDERR_FILENO,
-            b"toporasca: the output was cut short\n",
-        );
+fn main(rt: HostRuntime) {
+    let mut input = rt.stdin();
+    let mut output = rt.stdout();
+    if !shell::run(&mut input, &mut output) {
+        let _ = rt.eprintln("toporasca: the output was cut short");
     }
 }

@@ -1,36 +1,38 @@
 // The cases of one file, by its kind.
 use crate::{compiles, kind, supplier_cases, window_cases};
 use cases::out::Outcome;
-use cases::stream::Reader;
+use cases::stream::{Reader, Source};
 use cases::{numbers, out, stream};
-use libc::STDOUT_FILENO;
 use machine_cases::{advance, long, programs};
+use std::fs::File;
+use std::io::Stdout;
+use std::{io, str};
 
 // Answers the next case of a kind. A refused reader reads nothing, and nothing is printed for it.
-fn case(kind: &[u8], r: Reader, buffer: &mut [u8]) -> Outcome {
-    if check::same(kind, b"verdict") {
-        return programs::case(r, buffer, false);
+fn case(output: Stdout, kind: &[u8], r: Reader, source: &mut Source) -> Outcome {
+    if kind == b"verdict".as_slice() {
+        return programs::case(output, r, source, false);
     }
-    if check::same(kind, b"compile") {
-        return compiles::case(r, buffer);
+    if kind == b"compile".as_slice() {
+        return compiles::case(output, r, source);
     }
-    if check::same(kind, b"windows") {
-        return window_cases::case(r, buffer);
+    if kind == b"windows".as_slice() {
+        return window_cases::case(output, r, source);
     }
-    if check::same(kind, b"supplier") {
-        return supplier_cases::case(r, buffer);
+    if kind == b"supplier".as_slice() {
+        return supplier_cases::case(output, r, source);
     }
-    if check::same(kind, b"fresh") {
-        return programs::case(r, buffer, true);
+    if kind == b"fresh".as_slice() {
+        return programs::case(output, r, source, true);
     }
-    if check::same(kind, b"advance") {
-        return advance::case(r, buffer, false);
+    if kind == b"advance".as_slice() {
+        return advance::case(output, r, source, false);
     }
-    if check::same(kind, b"run") {
-        return advance::case(r, buffer, true);
+    if kind == b"run".as_slice() {
+        return advance::case(output, r, source, true);
     }
-    if check::same(kind, b"long") {
-        return long::case(r, buffer);
+    if kind == b"long".as_slice() {
+        return long::case(output, r, source);
     }
     Outcome {
         reader: r,
@@ -40,18 +42,18 @@ fn case(kind: &[u8], r: Reader, buffer: &mut [u8]) -> Outcome {
 }
 
 // Answers n cases of a kind, after which the file must end.
-fn each(kind: &[u8], r: Reader, buffer: &mut [u8], n: usize) -> Outcome {
+fn each(output: Stdout, kind: &[u8], r: Reader, source: &mut Source, n: usize) -> Outcome {
     let mut reader = r;
     let mut i = 0;
     while i < n {
-        let outcome = case(kind, reader, buffer);
+        let outcome = case(output, kind, reader, source);
         reader = outcome.reader;
         if !reader.ok | !outcome.written {
             return outcome;
         }
         i += 1;
     }
-    let end = numbers::finish(reader, buffer);
+    let end = numbers::finish(reader, source);
     Outcome {
         reader: end,
         known: true,
@@ -59,49 +61,68 @@ fn each(kind: &[u8], r: Reader, buffer: &mut [u8], n: usize) -> Outcome {
     }
 }
 
+// Writes a line to standard error: the file's name, a colon and what the system says of it.
+fn complain(rt: HostRuntime, name: &[u8], error: io::Error) {
+    let errors = rt.stderr();
+    let _ = errors.write_all(name);
+    let _ = errors.print(": ");
+    let _ = errors.println(error);
+}
+
 // Answers the cases of an open file; false where a write failed.
-fn opened(kind: &[u8], name: &[u8], fd: i32, buffer: &mut [u8]) -> bool {
-    let amount = numbers::count(stream::open(fd), buffer);
-    let outcome = each(kind, amount.reader, buffer, amount.value);
+fn opened(rt: HostRuntime, kind: &[u8], name: &[u8], source: &mut Source) -> bool {
+    let output = rt.stdout();
+    let amount = numbers::count(stream::open(), source);
+    let outcome = each(output, kind, amount.reader, source, amount.value);
     if !outcome.written {
         return false;
     }
     let reader = outcome.reader;
-    if reader.failed {
-        os::fail(name);
+    if let Some(error) = source.error {
+        complain(rt, name, error);
     }
     if reader.ok {
         return true;
     }
-    out::say(b"bad input: ", name)
+    out::say(output, b"bad input: ", name)
 }
 
 // Answers the cases of the file of this name, if its kind is known; false where a write failed.
 // (A case of a refused reader tells whether the kind is known.)
-fn cases_of(kind: &[u8], name: &[u8], fd: i32) -> bool {
-    let mut buffer = io::buffer();
-    let asked = case(kind, stream::refused(stream::open(0)), &mut buffer);
+fn cases_of(rt: HostRuntime, kind: &[u8], name: &[u8], file: File) -> bool {
+    let output = rt.stdout();
+    let mut source = Source::new(file);
+    let asked = case(output, kind, stream::refused(stream::open()), &mut source);
     if !asked.known {
-        return out::say(b"unknown kind: ", name);
+        return out::say(output, b"unknown kind: ", name);
     }
-    opened(kind, name, fd, &mut buffer)
+    opened(rt, kind, name, &mut source)
+}
+
+// Opens the file of this name to read it. A name that is no text is no file's.
+fn open(rt: HostRuntime, name: &[u8]) -> io::Result<File> {
+    match str::from_utf8(name) {
+        Ok(path) => File::open(&rt, path),
+        Err(_) => Err(io::Error::from(io::ErrorKind::NotFound)),
+    }
 }
 
 // Answers the file of this name; false where a write failed. One of the kind `main` is what the shipped program reads, and is answered
 // by its body.
-pub fn file(name: &[u8]) -> bool {
+pub fn file(rt: HostRuntime, name: &[u8]) -> bool {
     let kind = kind::of(name);
-    let fd = os::open_read(name);
-    if fd < 0 {
-        os::fail(name);
-        return out::say(b"no file: ", name);
+    let mut output = rt.stdout();
+    match open(rt, name) {
+        Err(error) => {
+            complain(rt, name, error);
+            out::say(output, b"no file: ", name)
+        }
+        Ok(mut file) => {
+            if kind == b"main".as_slice() {
+                shell::run(&mut file, &mut output);
+                return true;
+            }
+            cases_of(rt, kind, name, file)
+        }
     }
-    if check::same(kind, b"main") {
-        shell::run(fd, STDOUT_FILENO);
-        libc::close(fd);
-        return true;
-    }
-    let written = cases_of(kind, name, fd);
-    libc::close(fd);
-    written
 }

@@ -1,11 +1,12 @@
 // The kind `compile`: a program and how many words are lent a case; its answer, length and the words written a line.
 use cases::out::Outcome;
-use cases::stream::Reader;
+use cases::stream::{Reader, Source};
 use cases::tables::Lengths;
 use cases::{numbers, out, room, tables};
 use cells::parts::{least, words};
 use cells::table;
 use code::Compiled;
+use std::io::Stdout;
 
 // How many words can be lent to a compilation at most; no listing needs as many.
 const LENT: usize = room::CODE;
@@ -16,10 +17,10 @@ fn compiled(l: Lengths, room: &[i32], code: &mut [u32]) -> Compiled {
 }
 
 // Prints words of E code, each after a space; false where one could not be written.
-fn listed(code: &[u32]) -> bool {
+fn listed(output: Stdout, code: &[u32]) -> bool {
     let mut i = 0;
     while i < code.len() {
-        if !out::after_space(table::word(code, i)) {
+        if !out::after_space(output, table::word(code, i)) {
             return false;
         }
         i += 1;
@@ -28,27 +29,27 @@ fn listed(code: &[u32]) -> bool {
 }
 
 // Writes the line of a program that was read, with n words lent; false where it could not be written.
-fn judged(l: Lengths, room: &[i32], code: &mut [u32], n: usize) -> bool {
+fn judged(output: Stdout, l: Lengths, room: &[i32], code: &mut [u32], n: usize) -> bool {
     let end = least(n, code.len());
     let made = compiled(l, room, &mut code[..end]);
-    if !out::answer(made.answer) {
+    if !out::answer(output, made.answer) {
         return false;
     }
-    if !out::after_space(made.length) {
+    if !out::after_space(output, made.length) {
         return false;
     }
-    if !listed(words(code, made.length)) {
+    if !listed(output, words(code, made.length)) {
         return false;
     }
-    out::line_end()
+    out::line_end(output)
 }
 
 // Answers a case of the kind `compile`.
-pub fn case(r: Reader, buffer: &mut [u8]) -> Outcome {
+pub fn case(output: Stdout, r: Reader, source: &mut Source) -> Outcome {
     let mut room = [0i32; room::ALL];
     let mut code = [0u32; LENT];
-    let l = tables::program(r, buffer, &mut room);
-    let amount = numbers::count(l.reader, buffer);
+    let l = tables::program(r, source, &mut room);
+    let amount = numbers::count(l.reader, source);
     let reader = amount.reader;
     let known = true;
     if !reader.ok {
@@ -58,7 +59,7 @@ pub fn case(r: Reader, buffer: &mut [u8]) -> Outcome {
             written: true,
         };
     }
-    let written = judged(l, &room, &mut code, amount.value);
+    let written = judged(output, l, &room, &mut code, amount.value);
     Outcome {
         reader,
         known,

@@ -7,28 +7,42 @@ mod kind;
 mod supplier_cases;
 mod window_cases;
 
-use libc::STDOUT_FILENO;
+use std::env::FillError;
+use std::rt::Env;
+
+// How many bytes of a file's name are kept.
+const NAME: usize = 4096;
+
+// How many arguments there are, the program's own name among them.
+fn count(rt: HostRuntime) -> usize {
+    let mut name = [0u8; NAME];
+    for n in 0..usize::MAX {
+        if let Err(FillError::NotPresent) = rt.arg(n, &mut name) {
+            return n;
+        }
+    }
+    usize::MAX
+}
 
 // Answers all cases of the file that argument i names; false where a write failed. A name that does not fit the buffer is cut to it,
 // and no file has so long a name.
-fn answer(i: usize) -> bool {
-    let mut name = io::buffer();
-    let n = os::arg(i, &mut name);
-    if os::errno() != 0 {
-        return answers::file(&name);
+fn answer(rt: HostRuntime, i: usize) -> bool {
+    let mut name = [0u8; NAME];
+    match rt.arg(i, &mut name) {
+        Ok(n) => answers::file(rt, &name[..n]),
+        Err(_) => answers::file(rt, &name),
     }
-    answers::file(&name[..n])
 }
 
-fn main() {
-    let n = os::arg_count();
+fn main(rt: HostRuntime) {
+    let n = count(rt);
     if n < 2 {
-        io::write_all(STDOUT_FILENO, b"usage: vectors FILE..\n");
+        let _ = rt.println("usage: vectors FILE..");
         return;
     }
     let mut i = 1;
     while i < n {
-        if !answer(i) {
+        if !answer(rt, i) {
             return;
         }
         i += 1;

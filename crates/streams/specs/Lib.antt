@@ -1,0 +1,2 @@
+-- What one read or one write answers.
+pub mod Counts
