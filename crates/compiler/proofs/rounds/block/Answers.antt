@@ -48,8 +48,13 @@ pub parts-requires : goal.parts-requires
 parts-requires c =
     let begin = c.before.before.before.before.before.before.before.before.before.before in
     let after-aims-aim = c.before.before in
-    record { in_shape = c.requires.in_shape; addresses = c.requires.addresses; most_block_bound = c.requires.most_block_bound; aimed = subst Aimed (sym (told after-aims-aim))
-              (aimed c.args.round c.args.unit c.args.at (due begin) c.requires.ticks_le_greatest_word c.requires.first_le_greatest_word c.requires.most_block_bound (few begin)) }
+    record {
+      in_shape = c.requires.in_shape;
+      addresses = c.requires.addresses;
+      most_block_bound = c.requires.most_block_bound;
+      aimed = subst Aimed (sym (told after-aims-aim))
+          (aimed c.args.round c.args.unit c.args.at (due begin) c.requires.ticks_le_greatest_word c.requires.first_le_greatest_word c.requires.most_block_bound (few begin));
+    }
 
 pub returns : goal.returns
 returns c start =

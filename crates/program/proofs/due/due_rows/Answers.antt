@@ -16,6 +16,6 @@ loop-i-preserved c =
     let l = c.loop-i-test.true in
     let h = c.loop-i.invariant in
     elim c.if-row_due.branch [
-    then-row_due w ↦ subst (Counted p n (i + 1)) (sym w.count-is) (one_more p n i _ l (sym c.row_due.ensures ∙ w.if-row_due.true) h)
-    | else-row_due w ↦ subst (Counted p n (i + 1)) (sym w.count-is) (no_more p n i _ l (sym c.row_due.ensures ∙ w.if-row_due.false) h)
+      | then-row_due w ↦ subst (Counted p n (i + 1)) (sym w.count-is) (one_more p n i _ l (sym c.row_due.ensures ∙ w.if-row_due.true) h)
+      | else-row_due w ↦ subst (Counted p n (i + 1)) (sym w.count-is) (no_more p n i _ l (sym c.row_due.ensures ∙ w.if-row_due.false) h)
     ]
