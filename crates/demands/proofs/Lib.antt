@@ -15,8 +15,10 @@ pub mod Kept
 pub mod Idle
 pub mod Given
 pub mod Missing
+pub mod Takes
 pub mod Turns
 pub mod Waiting
 pub mod Response
+pub mod Since
 pub mod Actuated
 pub mod Private

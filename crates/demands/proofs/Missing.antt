@@ -26,7 +26,7 @@ use Rattle.giotto.proofs.Taken.{sensor-read, is-taken}
 use Rattle.machine.specs.Advance.{Lent}
 use Rattle.composed.specs.Related.{Related}
 use Rattle.demands.specs.Composed.{System, Accepted, joined, readings, state_at, configuration_at, SuitedAt}
-use Rattle.demands.specs.Missing.{MissingSatisfies, GapExact, DueAt, Enters, TakesSwitch, MissingTakes}
+use Rattle.demands.specs.Missing.{MissingSatisfies, GapExact, DueAt, Enters, TakesSwitch}
 use Rattle.demands.proofs.Sound.{accepted-sound}
 use Rattle.demands.proofs.Composed.{related-always}
 
@@ -121,7 +121,3 @@ due-taken Y a F lents n f i p s g d =
           is-due = d.is-due;
           guard = g S.after-sensors (sensor-read T K result (value_of (lents n).readings) C C' S p s);
         })
-
--- a missing reading takes the switch at an instant at which it is due
-pub missing-takes : MissingTakes
-missing-takes Y a F lents n f i p s w d e = due-taken Y a F lents n f i p s (λ v r. w v (r ∙ e)) d

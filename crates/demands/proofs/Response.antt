@@ -19,13 +19,12 @@ use Rattle.rules.proofs.Missing.{missing-inside}
 use Rattle.rules.proofs.Verdict.{program-accepted}
 use Rattle.giotto.specs.Instant.{Configuration, Function}
 use Rattle.giotto.proofs.Execution.{execution-keeps}
-use Rattle.giotto.proofs.Round.{LastInstant, last-instant, unit_ticks, BeginsUnit, instant-begins, some-ticks}
+use Rattle.giotto.proofs.Round.{unit_ticks, BeginsUnit, instant-begins, some-ticks}
 use Rattle.machine.specs.Advance.{Lent}
 use Rattle.demands.specs.Composed.{System, Accepted, readings, configuration_at}
 use Rattle.demands.specs.Kept.{InRound}
-use Rattle.demands.specs.Missing.{TakesSwitch}
-use Rattle.demands.specs.Response.{MissingAfter, MissingSince, waiting, waiting_from, Watches, FindsAfter, Leaves, LeavesWithin}
-use Rattle.demands.specs.Response.{SuitedFor, ResponseTime, ResponseExact, LongestFromStart, WaitingLongest, Slowest, SlowestSome}
+use Rattle.demands.specs.Response.{waiting, waiting_from, Watches, FindsAfter, Leaves, LeavesWithin}
+use Rattle.demands.specs.Response.{SuitedFor, ResponseTime, ResponseExact, LongestFromStart, WaitingLongest, SlowestSome}
 use Rattle.demands.specs.Response.{MissingLeadsOut}
 use Rattle.demands.proofs.Sound.{accepted-sound}
 use Rattle.demands.proofs.Missing.{due-taken}
@@ -161,33 +160,6 @@ missing-leads-out Y a F lents n p s f e h w g = go (gap (mode_at n) p s h w.of-m
         λ k x y z. missing-inside T j p q (value_of (lents k).readings) (g k (omega (arith, x)) (omega (arith, y, short)) z) in
         let r = response-time Y a F lents n j (λ k x. f k (omega (arith, x, short))) watches found in
         (j, q, record { tick = r.tick; later = r.later; in-time = omega (arith, r.in-time, short); leaves = r.leaves })
-
--- and so from the first missing reading on: what counts is the last instant before it
-pub missing-since : MissingSince
-missing-since Y a F lents (suc r) p s l f h w g =
-    go (missing-leads-out Y a F lents n p s (λ k x. f k (omega (arith, x, b.up_to))) b.instant h looked lost)
-  where
-    T : Tables
-    T = Y.tables
-
-    b : LastInstant T F (readings Y F lents) r
-    b = last-instant T ((program-accepted T).0 (accepted-sound Y a).accepted) F (readings Y F lents) r
-
-    n : ℕ
-    n = b.tick
-
-    looked : Slowest T (configuration_at Y F lents (suc n)).mode p s
-    looked = subst (λ (C : Configuration). Slowest T C.mode p s) b.same w
-
-    lost : MissingAfter T F (readings Y F lents) p n (waiting T s)
-    lost k x y z = g k (b.next k x z) (omega (arith, y, b.up_to)) z
-
-    go : (i : ℕ) × ForMissing T i p × LeavesWithin Y F lents n (waiting T s) i
-        → (i : ℕ) × ForMissing T i p × ((k : ℕ) × ((suc r ≤ k) × (k < suc r + waiting T s)) × TakesSwitch Y F lents k i)
-    go (i, q, v) =
-        let not-before = b.next v.tick v.later v.leaves.instant in
-        (i, q, (v.tick, (not-before, omega (arith, v.in-time, b.up_to)), v.leaves.takes))
-missing-since Y a F lents zero p s l f h w g = absurd (omega (arith, l))
 
 -- the test that a switch row is one of a mode and looks at a port
 looks-there : (T : Tables) (m p j : ℕ) → Dec ((switch_mode T j ≡ m) × LooksAt T j p)

@@ -20,7 +20,8 @@ use Rattle.layout.proofs.Limits.{unit-most, mode-most, few-rows}
 use Rattle.runs.specs.declared.block.Span.{Span}
 use Rattle.runs.specs.Schedule.{rows_of, block_of, Sorted, found, span_of}
 use Rattle.runs.specs.Round.{Course, Break, none, outside, late, worst_case, judge, nothing, worst_break}
-use Rattle.runs.proofs.Blocks.{behind-later, found_within, found-behind, block-found}
+use Rattle.runs.proofs.Blocks.{behind-later, found_within, found-behind}
+use Rattle.runs.proofs.Found.{block-found}
 use Rattle.suppliers.specs.Supplier.{break_number, break_tick}
 use Rattle.rounds.specs.declared.round.Rounded.{Rounded}
 use Rattle.rounds.specs.declared.units.Ended.{Ended}

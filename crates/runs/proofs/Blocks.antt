@@ -3,7 +3,7 @@
 use Prim.Native.Nat.{ℕ, suc, ◌+◌, ◌-◌, ◌*◌, ◌≤◌, ◌<◌}
 use mathlib.Core.Path.{◌≡◌, refl, sym, ap, subst, ◌∙◌}
 use mathlib.Core.Bool.{Bool, true, false, ◌&&◌}
-use mathlib.Core.List.{List, [], ◌++◌, append-nil}
+use mathlib.Core.List.{List}
 use mathlib.Core.Logic.{◌⊎◌, inl, inr, ⊎_elim}
 use native.Mathlib.Nat.{div-mul-le_self, eq-or-lt_of_le}
 use native.Mathlib.Omega.{arith}
@@ -13,19 +13,16 @@ use lib.IntN.{ℤ, pos}
 use lib.ListN.{length, drop, length-drop}
 use lib.Seq.{length-take-le, get_or-take, get_or-drop}
 use Rattle.theory.specs.Claim.{Says}
-use Rattle.theory.specs.Lists.{those, each}
 use Rattle.theory.proofs.Search.{Finds, finds}
-use Rattle.theory.proofs.Lists.{those-split, those-none, those-each, each_same}
 use Rattle.theory.proofs.Bools.{is_true, is_false, says-lt, says-le, says_eq, says-and, says-or}
-use Rattle.cells.specs.Cell.{cell_at, num_at, name_at}
+use Rattle.cells.specs.Cell.{cell_at}
 use Rattle.runs.proofs.Halving.{Rising, Halved, halved-all}
-use Rattle.runs.specs.Tick.{Row}
 use Rattle.runs.specs.declared.block.Span.{Span}
-use Rattle.runs.specs.Schedule.{schedule_width, kind_column, task_column, timeout_column, schedule_count, row_supplier, row_address, row_of}
-use Rattle.runs.specs.Schedule.{rows_of, block_of, Sorted, reaches, Behind, reach, found, span_of}
+use Rattle.runs.specs.Schedule.{schedule_width, schedule_count, row_supplier, row_address}
+use Rattle.runs.specs.Schedule.{Sorted, reaches, Behind, reach, found, span_of}
 
 -- a search for supplier s and address a finds the first row that does not come before them
-reach-finds : (S : List ℤ) (from s a : ℕ) → Finds (reaches S s a) (schedule_count S - from) from (reach S from s a)
+pub reach-finds : (S : List ℤ) (from s a : ℕ) → Finds (reaches S s a) (schedule_count S - from) from (reach S from s a)
 unfolding reach
 reach-finds S from s a = finds (reaches S s a) (schedule_count S - from) from
 
@@ -98,24 +95,24 @@ unfolding reach
 halved-reach S s a from low high = halved-all (reaches S s a) (schedule_count S) from low high
 
 -- row i is of the block of supplier s at address a
-abbrev is_of : List ℤ → ℕ → ℕ → ℕ → Bool
+abbrev pub is_of : List ℤ → ℕ → ℕ → ℕ → Bool
 is_of S s a i = eqb (row_supplier S i) s && eqb (row_address S i) a
 
 is-of-says : (S : List ℤ) (s a i : ℕ) → Says (is_of S s a i) ((row_supplier S i ≡ s) × (row_address S i ≡ a))
 is-of-says S s a i = says-and (says_eq (row_supplier S i) s) (says_eq (row_address S i) a)
 
 -- a row that comes before supplier s and address a is not of their block, nor is one that does not come before the next address
-before-block : (S : List ℤ) (s a i : ℕ) → reaches S s a i ≡ false → is_of S s a i ≡ false
+pub before-block : (S : List ℤ) (s a i : ℕ) → reaches S s a i ≡ false → is_of S s a i ≡ false
 before-block S s a i e =
     is_false (is-of-says S s a i) (λ w. (reaches-says S s a i).no e (inr (w.0, omega (arith, w.1))))
 
-after_block : (S : List ℤ) (s a i : ℕ) → reaches S s (suc a) i ≡ true → is_of S s a i ≡ false
+pub after_block : (S : List ℤ) (s a i : ℕ) → reaches S s (suc a) i ≡ true → is_of S s a i ≡ false
 after_block S s a i e =
     is_false (is-of-says S s a i)
     (λ w. ⊎_elim (λ v. omega (arith, v, w.0)) (λ v. omega (arith, v.1, w.1)) ((reaches-says S s (suc a) i).yes e))
 
 -- a row that comes before the next address, and not before supplier s and address a, is of their block
-in_block : (S : List ℤ) (s a i : ℕ) → reaches S s a i ≡ true → reaches S s (suc a) i ≡ false → is_of S s a i ≡ true
+pub in_block : (S : List ℤ) (s a i : ℕ) → reaches S s a i ≡ true → reaches S s (suc a) i ≡ false → is_of S s a i ≡ true
 in_block S s a i e f =
     is_true (is-of-says S s a i)
     (⊎_elim (λ v. absurd ((reaches-says S s (suc a) i).no f (inl v))) (λ v. (v.0, go v (dec_lt a (row_address S i)))) ((reaches-says S s a i).yes e))
@@ -126,7 +123,7 @@ in_block S s a i e f =
 
 module _ (S : List ℤ) (at : Span) where
   -- a cell of the part is a cell of the schedule
-  part-cell : (i c : ℕ) → i < at.end - at.begin → c < schedule_width
+  pub part-cell : (i c : ℕ) → i < at.end - at.begin → c < schedule_width
       → cell_at (span_of S at) (i * schedule_width + c) ≡ cell_at S ((at.begin + i) * schedule_width + c)
   part-cell i c l m =
       let z : at.begin * schedule_width + (i * schedule_width + c) ≡ (at.begin + i) * schedule_width + c = omega arith in
@@ -134,88 +131,11 @@ module _ (S : List ℤ) (at : Span) where
       ∙ get_or-drop (at.begin * schedule_width) S (i * schedule_width + c) (pos 0)
       ∙ ap (cell_at S) z
 
-  -- a row of the part is a row of the schedule
-  part-row : (i : ℕ) → i < at.end - at.begin → row_of (span_of S at) i ≡ row_of S (at.begin + i)
-  unfolding num_at name_at
-  part-row i l =
-      let k = part-cell i kind_column l (omega arith) in
-      let t = part-cell i task_column l (omega arith) in
-      let o = part-cell i timeout_column l (omega arith) in
-      simp (k, t, o) refl
-
   -- the part of a span has as many rows as the span
-  part_count : at.begin ≤ at.end → at.end ≤ schedule_count S → schedule_count (span_of S at) ≡ at.end - at.begin
+  pub part_count : at.begin ≤ at.end → at.end ≤ schedule_count S → schedule_count (span_of S at) ≡ at.end - at.begin
   part_count l m =
       let f = div-mul-le_self (length S) schedule_width in
       let e =
       length-take-le ((at.end - at.begin) * schedule_width) (drop (at.begin * schedule_width) S)
       (simp length-drop (omega (arith, f))) in
       omega (arith, e)
-
-module _ (S : List ℤ) (s a from : ℕ) (o : Sorted S) (l : from ≤ schedule_count S) (h : Behind S s a from) where
-  abbrev begin : ℕ
-  begin = reach S from s a
-
-  abbrev end : ℕ
-  end = reach S begin s (suc a)
-
-  -- the rows before those found are not of the block
-  none_before : those (is_of S s a) (row_of S) begin 0 ≡ []
-  none_before = those-none (is_of S s a) (row_of S) begin 0 (λ i u v. before-block S s a i (go i v (dec_lt i from)))
-    where
-      go : (i : ℕ) → i < 0 + begin → Dec (i < from) → reaches S s a i ≡ false
-      go i v (yes k) = h i k
-      go i v (no k) = (reach-finds S from s a).least i (omega arith) (omega arith)
-
-  -- the rows found are of the block
-  all_found : those (is_of S s a) (row_of S) (end - begin) begin ≡ each (row_of S) (end - begin) begin
-  all_found = those-each (is_of S s a) (row_of S) (end - begin) begin go
-    where
-      go : (i : ℕ) → begin ≤ i → i < begin + (end - begin) → is_of S s a i ≡ true
-      go i u v =
-          let w = found_within S s a from l in
-          let r = (reach-finds S from s a).has (omega (arith, w.1, w.2)) in
-          in_block S s a i (sorted-reaches S s a o begin i u (omega (arith, w.1, w.2)) r) ((reach-finds S begin s (suc a)).least i u (omega arith))
-
-  -- the rows after those found are not of the block
-  none_after : those (is_of S s a) (row_of S) (schedule_count S - end) end ≡ []
-  none_after = those-none (is_of S s a) (row_of S) (schedule_count S - end) end go
-    where
-      go : (i : ℕ) → end ≤ i → i < end + (schedule_count S - end) → is_of S s a i ≡ false
-      go i u v =
-          let w = found_within S s a from l in
-          let r = (reach-finds S begin s (suc a)).has (omega (arith, w.1, w.2)) in
-          after_block S s a i (sorted-reaches S s (suc a) o end i u (omega (arith, w.1, w.2)) r)
-
-  -- the block is the rows found
-  block-is : block_of S s a ≡ each (row_of S) (end - begin) begin
-  block-is =
-      let pass : ℕ → ℕ → List Row = those (is_of S s a) (row_of S) in
-      let rest : ℕ = schedule_count S - end in
-      let w = found_within S s a from l in
-      let x : begin + (end - begin) ≡ end = omega (arith, w.1) in
-      let y : 0 + begin ≡ begin = omega arith in
-      let z : schedule_count S ≡ begin + (end - begin + rest) = omega (arith, w.1, w.2) in
-      ap (λ (k : ℕ). pass k 0) z
-      ∙ those-split (is_of S s a) (row_of S) begin (end - begin + rest) 0
-      ∙ ap (λ (r : List Row). r ++ pass (end - begin + rest) (0 + begin)) none_before
-      ∙ ap (pass (end - begin + rest)) y
-      ∙ those-split (is_of S s a) (row_of S) (end - begin) rest begin
-      ∙ ap (λ (r : List Row). pass (end - begin) begin ++ r) (ap (pass rest) x ∙ none_after)
-      ∙ append-nil (pass (end - begin) begin)
-      ∙ all_found
-
--- on a sorted schedule, where no row of the block stands before `from`, the rows found are the block
-pub block-found : (S : List ℤ) (s a from : ℕ) → Sorted S → from ≤ schedule_count S → Behind S s a from
-    → rows_of (span_of S (found S from s a)) ≡ block_of S s a
-block-found S s a from o l h =
-    let at = found S from s a in
-    let w = found_within S s a from l in
-    ap (λ (k : ℕ). each (row_of (span_of S at)) k 0) (part_count S at w.1 w.2)
-    ∙ each_same (row_of (span_of S at)) (row_of S) (at.end - at.begin) 0 at.begin go
-    ∙ sym (block-is S s a from o l h)
-  where
-    go : (k : ℕ) → k < (found S from s a).end - (found S from s a).begin → row_of (span_of S (found S from s a)) (0 + k) ≡ row_of S ((found S from s a).begin + k)
-    go k u =
-        let z : 0 + k ≡ k = omega arith in
-        ap (row_of (span_of S (found S from s a))) z ∙ part-row S (found S from s a) k u

@@ -10,6 +10,7 @@ pub mod Exactly
 pub mod Windows
 pub mod Halving
 pub mod Blocks
+pub mod Found
 pub mod Rows
 pub mod Turns
 pub mod Ends

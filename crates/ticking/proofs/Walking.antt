@@ -10,7 +10,8 @@ use Rattle.runs.specs.declared.block.Span.{Span}
 use Rattle.runs.specs.declared.turn.Turn.{Turn}
 use Rattle.runs.specs.Tick.{Row, turn_of, turn}
 use Rattle.runs.specs.Schedule.{schedule_count, rows_of, block_of, Sorted, Behind, found, span_of}
-use Rattle.runs.proofs.Blocks.{behind-none, behind-supplier, found-behind, block-found}
+use Rattle.runs.proofs.Blocks.{behind-none, behind-supplier, found-behind}
+use Rattle.runs.proofs.Found.{block-found}
 use Rattle.machine.specs.declared.State.{State}
 use Rattle.machine.specs.declared.Running.{Running}
 use Rattle.machine.specs.declared.Shares.{Shares}

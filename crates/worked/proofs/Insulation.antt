@@ -38,7 +38,8 @@ use Rattle.demands.specs.Idle.{Idle, asked_of}
 use Rattle.demands.specs.Missing.{DueAt, Enters, TakesSwitch}
 use Rattle.demands.proofs.Idle.{accepted-of}
 use Rattle.demands.proofs.Supplied.{worst-case-suited}
-use Rattle.demands.proofs.Missing.{missing-satisfies, gap-exact, missing-takes}
+use Rattle.demands.proofs.Missing.{missing-satisfies, gap-exact}
+use Rattle.demands.proofs.Takes.{missing-takes}
 use Rattle.worked.specs.Computed.{computed}
 use Rattle.worked.specs.Systems.{mix}
 use Rattle.worked.specs.Example.{insulation_text}

@@ -31,7 +31,8 @@ use Rattle.demands.specs.Missing.{TakesSwitch}
 use Rattle.demands.specs.Response.{waiting, waiting_from, InstantAt, current_after, Watches, FindsAfter, Leaves, LeavesWithin, NoTickLess}
 use Rattle.demands.specs.Response.{LongestFromStart, Slowest, MissingAfter}
 use Rattle.demands.proofs.Supplied.{worst-case-suited}
-use Rattle.demands.proofs.Response.{response-time, response-exact, waiting-longest, missing-leads-out, missing-since, slowest-some}
+use Rattle.demands.proofs.Response.{response-time, response-exact, waiting-longest, missing-leads-out, slowest-some}
+use Rattle.demands.proofs.Since.{missing-since}
 use Rattle.worked.specs.Computed.{computed}
 use Rattle.worked.specs.Systems.{mix}
 use Rattle.worked.specs.Insulation.{insulation, insulation-system, insulation_lent, lost_from, flickers, sinks}

@@ -12,7 +12,8 @@ use Rattle.layout.specs.Layout.{start_in}
 use Rattle.layout.specs.Delays.{counted_delays}
 use Rattle.runs.specs.Schedule.{schedule_count, reaches, reach, Sorted, Behind, found, span_of, rows_of, block_of}
 use Rattle.runs.specs.Round.{worst_break, nothing}
-use Rattle.runs.proofs.Blocks.{behind-none, behind-later, found-behind, block-found}
+use Rattle.runs.proofs.Blocks.{behind-none, behind-later, found-behind}
+use Rattle.runs.proofs.Found.{block-found}
 use Rattle.suppliers.specs.Schedule.{part_tests, part_bad, joined_tests}
 use Rattle.suppliers.specs.Delays.{part_tests_in, joined_tests_in}
 use Rattle.suppliers.specs.Supplier.{answer_from, judged}
