@@ -1,7 +1,7 @@
 // Answers files of cases, each by its kind: the last part of the file's name, up to its first dot.
 #![tactic(auto)]
 
-mod answers;
+mod answered;
 mod compiles;
 mod kind;
 mod supplier_cases;
@@ -29,8 +29,8 @@ fn count(rt: HostRuntime) -> usize {
 fn answer(rt: HostRuntime, i: usize) -> bool {
     let mut name = [0u8; NAME];
     match rt.arg(i, &mut name) {
-        Ok(n) => answers::file(rt, &name[..n]),
-        Err(_) => answers::file(rt, &name),
+        Ok(n) => answered::file(rt, &name[..n]),
+        Err(_) => answered::file(rt, &name),
     }
 }
 

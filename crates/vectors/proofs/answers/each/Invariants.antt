@@ -1,6 +1,0 @@
--- `vectors::answers::each` is safe and ends: a turn a case.
-use Prim.Native.Nat.{◌-◌}
-use Rattle.vectors.proofs.answers.each.Given as goal
-
-abbrev pub decreases-loop-i : goal.decreases-loop-i
-decreases-loop-i l = l.n - l.i
