@@ -45,7 +45,7 @@ inputs() {
 # awk behind the shared reader of tables, on bytes: reading -f FILE.awk.. -- ARGUMENT..
 reading() {
     cells=$root/crates/cells/src
-    inputs "$cells/limits.rt" "$cells/columns.rt"
+    inputs "$cells/limits.rt" "$cells/columns.rt" "$cells/codes.rt"
     LC_ALL=C TOOL=$tool CELLS=$cells \
         awk -f "$root/tools/lines.awk" -f "$root/tools/limits.awk" -f "$root/tools/tables.awk" "$@"
 }

@@ -97,7 +97,8 @@ function emit_unit(m, k,    task, tasks, update, updates, gate, gates, i) {
     block[m, k] = code_size
     for (i = 1; i <= tasks; i++) emit("call", constant("OUTPUT_CALL") + of("invocations", task[i], "TASK"))
     for (i = 1; i <= updates; i++) emit("call", of("updates", update[i], "DRIVER"))
-    for (i = 0; i < rows["ports"]; i++) if (of("ports", i, "KIND") == constant("port.SENSOR")) emit("call", constant("SENSOR_CALL") + i)
+    for (i = 0; i < rows["ports"]; i++)
+        if (of("ports", i, "KIND") == constant("PortKind::Sensor")) emit("call", constant("SENSOR_CALL") + i)
     for (i = 1; i <= gates; i++) emit("if", of("switches", gate[i], "DRIVER"), stub[k, gate[i]])
     if (k == 0) entry[m] = code_size
     for (i = 1; i <= tasks; i++) emit("call", of("invocations", task[i], "DRIVER"))

@@ -12,8 +12,8 @@ function read_ticks(file,    word, n) {
 }
 
 function change(what, which, value) {
-    if (what == "reading") check_port(which, "sensor", "SENSOR")
-    if (what == "result") check_port(which, "output or private", "OUTPUT", "PRIVATE")
+    if (what == "reading") check_port(which, "sensor", "Sensor")
+    if (what == "result") check_port(which, "output or private", "Output", "Private")
     if (what == "time") check_declared(which, "tasks", "task")
     if (value == "none") value = "-2147483648" # the no-reading value
     check_number(value)
@@ -28,7 +28,8 @@ function check_declared(which, name, kind) {
 function check_port(which, kind, value, other,    is) {
     check_declared(which, "ports", kind " port")
     is = of("ports", which + 0, "KIND")
-    if (is != constant("port." value) && (other == "" || is != constant("port." other))) wrong(shown(which) " is no declared " kind " port")
+    if (is != constant("PortKind::" value) && (other == "" || is != constant("PortKind::" other)))
+        wrong(shown(which) " is no declared " kind " port")
 }
 
 function add_ticks(n) {

@@ -1,15 +1,23 @@
 -- The answers of the two calls: each its own 1, then what both ask, then a supplier's 13.
-use Prim.Native.Nat.{◌<◌}
 use mathlib.Core.Path.{◌≡◌, refl, sym, ap, ap₂, ◌∙◌}
-use mathlib.Core.Bool.{true, false, cond}
-use mathlib.Core.List.{[], ◌∷◌}
+use mathlib.Core.Bool.{Bool, true, false, ◌||◌, cond}
+use mathlib.Core.List.{List, [], ◌∷◌}
 use native.Mathlib.Omega.{arith}
+use lib.IntN.{ℤ}
+use Rattle.std.specs.Prelude.{Err}
 use Rattle.theory.specs.Rows.{placeless}
 use Rattle.theory.specs.Verdict.{accepted_number, within, first_refusal, rows_answer, or_next}
 use Rattle.theory.specs.declared.Answer.{Answer}
-use Rattle.theory.proofs.Verdict.{one_answer, answer-append, next-given, next-none, next-assoc, next-first}
+use Rattle.theory.proofs.Verdict.{one_answer, answer-append, next-none, next-assoc, next-first}
+use Rattle.cells.specs.declared.refusals.Refusal.TheVariants.{Shape}
 use Rattle.cells.specs.Refusals.{shape_refused, windows_refused, schedule_refused}
-use Rattle.rules.specs.Shape.{shape_bad}
+use Rattle.answers.specs.declared.Refused.{Refused}
+use Rattle.answers.specs.Answers.{answer_of, told_where}
+use Rattle.answers.proofs.Told.{refusal-some}
+use Rattle.program.specs.Tables.{Tables}
+use Rattle.cells.specs.Limits.{max_part}
+use Rattle.runs.specs.Schedule.{schedule_width}
+use Rattle.rules.specs.Shape.{bad_slice, shape_bad}
 use Rattle.rules.specs.Verdict.{program_verdict}
 use Rattle.code.specs.Compile.{CodeFits}
 use Rattle.verdict_2_11.specs.Tables.{tables_and_code_answer}
@@ -19,28 +27,35 @@ use Rattle.suppliers.specs.Schedule.{part_tests, part_bad}
 use Rattle.suppliers.specs.Supplier.{Asked, supplier_of, windowed_of, part_shape_bad, part_refusal, own_refusals, part_verdict, part_answer}
 use Rattle.suppliers.specs.Supplier.{supplier_verdict}
 use Rattle.suppliers.proofs.Answers.{part-number, supplier-refused}
-use Rattle.acceptance.specs.Judged.{shaped_answer}
+use Rattle.acceptance.specs.Judged.{windowed, asked, shaped_answer}
+
+-- number 1 comes before what is asked of what has its shape
+shape-first : (b : Bool) (x : Answer) → cond b (placeless shape_refused) x ≡ or_next (told_where b Shape) x
+shape-first true x = refl
+shape-first false x = refl
 
 -- the windows verdict: 1, then what both calls ask
-pub windows-answer : (L : Windowed) → windows_answer L ≡ cond (windows_shape_bad L) (placeless shape_refused) (shaped_answer L)
+pub windows-answer : (L : Windowed) → windows_answer L ≡ or_next (told_where (windows_shape_bad L) Shape) (shaped_answer L)
 unfolding windows_answer shaped_answer windows_bad
 windows-answer L =
     ap (cond (windows_shape_bad L) (placeless shape_refused))
     (call-answer (λ (L : Windowed). L.tables) window_rows_refusals L)
+    ∙ shape-first (windows_shape_bad L) (shaped_answer L)
 
 -- what the rows of an asked supplier's part give for number 13
 abbrev pub own_answer : Asked → Answer
 own_answer L = rows_answer schedule_refused (part_tests L.tables L.part (supplier_of L))
 
 -- the answer on a part: 1, then what both ask, then 13
-part-in-order : (L : Asked)
-    → part_answer L ≡ cond (part_shape_bad L) (placeless shape_refused) (or_next (shaped_answer (windowed_of L)) (own_answer L))
+pub part-in-order : (L : Asked)
+    → part_answer L ≡ or_next (told_where (part_shape_bad L) Shape) (or_next (shaped_answer (windowed_of L)) (own_answer L))
 unfolding part_answer shaped_answer windows_bad part_bad
 part-in-order L =
     ap (cond (part_shape_bad L) (placeless shape_refused))
     (call-answer (λ (L : Asked). L.tables) own_refusals L
     ∙ ap (or_next (tables_and_code_answer L.tables)) own
     ∙ next-assoc (tables_and_code_answer L.tables) (rows_answer windows_refused (window_tests (windowed_of L))) (own_answer L))
+    ∙ shape-first (part_shape_bad L) (or_next (shaped_answer (windowed_of L)) (own_answer L))
   where
     own : first_refusal own_refusals L ≡ or_next (rows_answer windows_refused (window_tests (windowed_of L))) (own_answer L)
     own =
@@ -53,29 +68,25 @@ pub shaped-accepted : (L : Windowed) → shape_bad L.tables ≡ false → (shape
 unfolding shaped_answer
 shaped-accepted L s e = call-accepted L.tables s (next-first _ _ e)
 
+-- the shape of what is lent, as the call asks it: that of tables and windows, then that of the part
+pub shape-lent : (T : Tables) (W S : List ℤ) (s : ℤ) {a b : Bool} → a ≡ windows_shape_bad (windowed T W) → b ≡ bad_slice schedule_width max_part S
+    → (a || b) ≡ part_shape_bad (asked T W S s)
+unfolding windows_shape_bad part_shape_bad
+shape-lent T W S s e f = ap₂ (λ (a b : Bool). a || b) e f
+
 module _ (L : Asked) where
-  -- an answer on the part that refuses is that of the supplier's verdict
-  pub refused-is : (x : Answer) → part_answer L ≡ x → accepted_number < x.number → x ≡ supplier_verdict L
-  refused-is x e l =
-      sym e ∙ supplier-refused L x.number (sym (part-number L) ∙ ap (λ (y : Answer). y.number) e) (λ z. omega arith)
+  -- a refusal that the answer on the part comes to is that of the supplier's verdict
+  pub refused-is : (e : Refused) → answer_of {A = Unit {0}} (Err e) ≡ part_answer L → answer_of {A = Unit {0}} (Err e) ≡ supplier_verdict L
+  refused-is e h =
+      let x = answer_of {A = Unit {0}} (Err e) in
+      h ∙ supplier-refused L x.number (sym (part-number L) ∙ ap (λ (y : Answer). y.number) (sym h)) (refusal-some e.refusal)
 
-  -- the answer on a part is 1 where the part, the windows or the tables do not have their shape
-  pub part-one : part_shape_bad L ≡ true → part_answer L ≡ placeless shape_refused
-  part-one e = part-in-order L ∙ (λ i. cond (e i) (placeless shape_refused) (or_next (shaped_answer (windowed_of L)) (own_answer L)))
-
-  module _ (s : part_shape_bad L ≡ false) where
-    -- the answer on a part that has its shape: what both calls ask, then 13
-    part-shaped : part_answer L ≡ or_next (shaped_answer (windowed_of L)) (own_answer L)
-    part-shaped = part-in-order L ∙ (λ i. cond (s i) (placeless shape_refused) (or_next (shaped_answer (windowed_of L)) (own_answer L)))
-
-    -- the answer on a part is the one that both calls ask for, where that refuses
-    pub part-given : (x : Answer) → x ≡ shaped_answer (windowed_of L) → accepted_number < x.number → part_answer L ≡ x
-    part-given x e l = part-shaped ∙ ap (λ (y : Answer). or_next y (own_answer L)) (sym e) ∙ next-given x (own_answer L) (λ z. omega arith)
-
-    -- where what both calls ask for accepts, 13 decides the answer on a part
-    pub part-own : (shaped_answer (windowed_of L)).number ≡ accepted_number → part_answer L ≡ own_answer L
-    part-own e = part-shaped ∙ next-none (shaped_answer (windowed_of L)) (own_answer L) e
-
-    -- where 13 accepts too, the verdict on the part is 0
-    pub part-passes : (shaped_answer (windowed_of L)).number ≡ accepted_number → (own_answer L).number ≡ accepted_number → part_verdict L ≡ accepted_number
-    part-passes e f = sym (part-number L) ∙ ap (λ (y : Answer). y.number) (part-own e) ∙ f
+  -- where nothing is refused up to 13, the verdict on the part is 0
+  pub part-passes : part_shape_bad L ≡ false → (shaped_answer (windowed_of L)).number ≡ accepted_number → (own_answer L).number ≡ accepted_number
+      → part_verdict L ≡ accepted_number
+  part-passes s e f =
+      let rest = or_next (shaped_answer (windowed_of L)) (own_answer L) in
+      sym (part-number L)
+      ∙ ap (λ (y : Answer). y.number)
+      (part-in-order L ∙ ap (λ (b : Bool). or_next (told_where b Shape) rest) s ∙ next-none (shaped_answer (windowed_of L)) (own_answer L) e)
+      ∙ f

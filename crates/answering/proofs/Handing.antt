@@ -1,7 +1,7 @@
 -- What writes come to, however much each of them takes: what was taken and what is still to come is the text.
 use Prim.Native.Nat.{ℕ, zero, suc, ◌+◌, ◌-◌, ◌*◌, ◌≤◌, ◌<◌}
 use mathlib.Core.Path.{◌≡◌, refl, sym, ap, subst, ◌∙◌}
-use mathlib.Core.Bool.{Bool, true, false, cond}
+use mathlib.Core.Bool.{Bool, true, false}
 use mathlib.Core.List.{List, [], ◌∷◌, ◌++◌, append_assoc, append-nil}
 use native.Mathlib.Decide.{dec_lt}
 use native.Mathlib.Omega.{arith}
@@ -10,22 +10,21 @@ use lib.ListN.{length, take, drop, length-append, length-take, length-drop, take
 use lib.Seq.{length-take-le, take-append_seam, take_all, drop-drop}
 use borrow.Author.Tests.{ltb-true, ltb-false, eqb-true, eq-eqb, ne_eqb}
 use Rattle.theory.specs.Lists.{Every}
-use Rattle.theory.specs.Rows.{placeless}
 use Rattle.theory.proofs.Conditions.{cond-all}
 use Rattle.cells.specs.Limits.{words_each}
-use Rattle.cells.specs.Refusals.{code_refused}
 use Rattle.code.specs.Op.{Op, instructions}
 use Rattle.text.specs.Line.{room, Holds}
 use Rattle.text.specs.Listing.{lines_from, listing_text}
 use Rattle.text.specs.Page.{Laid, lines_of, page_end, Filled}
 use Rattle.text.specs.declared.line.Line.{Line}
 use Rattle.text.specs.declared.page.Page.{Page}
-use Rattle.text.specs.Shipped.{bad_input, larger_listing, answer_line}
+use Rattle.text.specs.Shipped.{bad_input}
 use Rattle.text.proofs.Answers.{line-some, answer-few, larger-length}
 use Rattle.text.proofs.PageEnd.{Ends, page-ends, page-goes, lines-some, lines_cut}
-use Rattle.answering.specs.Answer.{Answered, number_lines, text_of_answer}
+use Rattle.answering.specs.Answer.{Answered, larger_lines, text_shown, text_of_answer}
 use Rattle.answering.specs.declared.answer.Shown.{Shown}
-use Rattle.answering.specs.Writing.{opening_of, code_of, ops_of, Spread, spread, laid, page_of, rest_of, onward, wrote_of, page_left, taken_of}
+use Rattle.answering.specs.declared.answer.Shown.TheVariants.{Bad, Larger, Said}
+use Rattle.answering.specs.Writing.{opening_of, length_shown, code_of, ops_of, Spread, spread, laid, page_of, rest_of, onward, wrote_of, page_left, taken_of}
 use Rattle.answering.specs.Writing.{pending_of, is_written, AfterWrites}
 
 -- a page that was just laid has its whole text to hand on
@@ -40,13 +39,12 @@ laid_same text next buffer h = omega (arith, length-append text (drop (length te
 -- what an answer begins with and the lines that follow are its text
 pub opening-text : (a : Answered) → opening_of a.shown ++ listing_text (ops_of a) ≡ text_of_answer a
 unfolding opening_of code_of text_of_answer
-opening-text a = go a.shown.bad
+opening-text a = go a.shown
   where
-    go : (b : Bool)
-        → cond b bad_input (number_lines a.shown) ++ listing_text (instructions (take (words_each * cond b 0 a.shown.length) a.code))
-        ≡ cond b bad_input (number_lines a.shown ++ listing_text (instructions (take (words_each * a.shown.length) a.code)))
-    go true = append-nil bad_input
-    go false = refl
+    go : (s : Shown) → opening_of s ++ listing_text (instructions (take (words_each * length_shown s) a.code)) ≡ text_shown s a.code
+    go Bad = append-nil bad_input
+    go Larger = append-nil larger_lines
+    go (Said x n) = refl
 
 -- a text has some byte, and any buffer has room for it
 pub record Short (text : List ℕ) : Type 0 where
@@ -55,13 +53,9 @@ pub record Short (text : List ℕ) : Type 0 where
 
 pub opening-line : (s : Shown) → Short (opening_of s)
 unfolding opening_of
-opening-line s =
-    let larger = answer_line (placeless code_refused) ++ larger_listing in
-    cond-all Short s.bad bad_input (number_lines s) (λ e. record { some = omega arith; few = omega arith })
-    (λ e.
-    cond-all Short s.larger larger (answer_line s.answer)
-    (λ q. record { some = omega (arith, larger-length); few = omega (arith, larger-length) })
-    (λ q. record { some = line-some s.answer; few = answer-few s.answer }))
+opening-line Bad = record { some = omega arith; few = omega arith }
+opening-line Larger = record { some = omega (arith, larger-length); few = omega (arith, larger-length) }
+opening-line (Said x n) = record { some = line-some x; few = answer-few x }
 
 module _ (a : Answered) (from : ℕ) (buffer : List ℕ) where
   -- where the page from an instruction on ends

@@ -11,7 +11,10 @@ use Rattle.theory.specs.Verdict.{or_else}
 use Rattle.theory.specs.declared.Answer.{Answer}
 use Rattle.theory.proofs.Bools.{says-and, says_eq, says-bars, bars-lt}
 use Rattle.cells.specs.Limits.{max_code}
-use Rattle.cells.specs.Refusals.{shape_refused, code_refused}
+use Rattle.cells.specs.Refusals.{shape_refused, code_refused, number_of}
+use Rattle.cells.specs.declared.refusals.Refusal.{Refusal}
+use Rattle.cells.specs.declared.refusals.Refusal.TheVariants.{Shape, Fields, TaskPorts, Copies, ModePorts, Invocations, Updates, Switches, Units, Whole, Code}
+use Rattle.cells.specs.declared.refusals.Refusal.TheVariants.{Windows, Schedule, Outside, Late, Time, Overrun, Collision, Faulty, Count, State, Gap}
 use Rattle.program.specs.Tables.{Tables}
 use Rattle.rules.specs.Shape.{shape_bad}
 use Rattle.code.specs.Compile.{Compiling, listing_of, code_long, CodeFits, compile_verdict, compile_answer, compile_slice}
@@ -59,3 +62,28 @@ pub compiled-shown : (T : Tables) (code exit : List ℕ) (c : Compiled) (b : Boo
 compiled-shown T code exit c b s e f g h =
     let q = g ∙ ap (λ (d : Compiled). is_larger T d.answer.number) e in
     ap (λ (s : Shown). answered s exit) h ∙ (λ i. answered (shown_of (e i) (q i)) (f i))
+
+-- 11 is the number of one refusal
+pub eleven-only : (r : Refusal) → number_of r ≡ code_refused → r ≡ Code
+eleven-only Shape e = absurd (omega (arith, e))
+eleven-only Fields e = absurd (omega (arith, e))
+eleven-only TaskPorts e = absurd (omega (arith, e))
+eleven-only Copies e = absurd (omega (arith, e))
+eleven-only ModePorts e = absurd (omega (arith, e))
+eleven-only Invocations e = absurd (omega (arith, e))
+eleven-only Updates e = absurd (omega (arith, e))
+eleven-only Switches e = absurd (omega (arith, e))
+eleven-only Units e = absurd (omega (arith, e))
+eleven-only Whole e = absurd (omega (arith, e))
+eleven-only Code e = refl
+eleven-only Windows e = absurd (omega (arith, e))
+eleven-only Schedule e = absurd (omega (arith, e))
+eleven-only Outside e = absurd (omega (arith, e))
+eleven-only Late e = absurd (omega (arith, e))
+eleven-only Time e = absurd (omega (arith, e))
+eleven-only Overrun e = absurd (omega (arith, e))
+eleven-only Collision e = absurd (omega (arith, e))
+eleven-only Faulty e = absurd (omega (arith, e))
+eleven-only Count e = absurd (omega (arith, e))
+eleven-only State e = absurd (omega (arith, e))
+eleven-only Gap e = absurd (omega (arith, e))

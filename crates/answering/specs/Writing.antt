@@ -4,9 +4,10 @@ use Rattle.cells.specs.Limits.{words_each}
 use Rattle.code.specs.Op.{Op, instructions}
 use Rattle.text.specs.Listing.{lines_from}
 use Rattle.text.specs.Page.{lines_of, page_end}
-use Rattle.text.specs.Shipped.{bad_input}
-use Rattle.answering.specs.Answer.{Answered, number_lines}
+use Rattle.text.specs.Shipped.{bad_input, answer_line}
+use Rattle.answering.specs.Answer.{Answered, larger_lines}
 use Rattle.answering.specs.declared.answer.Shown.{Shown}
+use Rattle.answering.specs.declared.answer.Shown.TheVariants.{Bad, Larger, Said}
 use Rattle.answering.specs.declared.pages.Sheet.{Sheet}
 
 -- how many bytes the buffer has that pieces are read into and pages are laid in
@@ -19,11 +20,19 @@ empty_buffer = replicate buffer_size 0
 
 -- what an answer begins with: its first line, or the two for a listing that is larger than is held
 unfoldable pub opening_of : Shown → List ℕ
-opening_of s = cond s.bad bad_input (number_lines s)
+opening_of Bad = bad_input
+opening_of Larger = larger_lines
+opening_of (Said x n) = answer_line x
 
--- the code whose lines follow what an answer begins with; behind `bad input` there is none
+-- the length of the listing that is shown; behind `bad input`, and where it is larger than is held, there is none
+abbrev pub length_shown : Shown → ℕ
+length_shown Bad = 0
+length_shown Larger = 0
+length_shown (Said x n) = n
+
+-- the code whose lines follow what an answer begins with
 unfoldable pub code_of : Answered → List ℕ
-code_of a = take (words_each * cond a.shown.bad 0 a.shown.length) a.code
+code_of a = take (words_each * length_shown a.shown) a.code
 
 -- the instructions whose lines follow what an answer begins with
 abbrev pub ops_of : Answered → List Op

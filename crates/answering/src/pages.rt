@@ -1,11 +1,11 @@
 // The pages of an answer: which one comes next, what of it is still to be written, and how far a write has come.
-ghost use Rattle.std.specs.Prelude.{◌≤◌, ◌≡◌, length};
+ghost use Rattle.std.specs.Prelude.{◌≤◌, ◌≡◌, ℕ, List, true, false, length};
 ghost use Rattle.text.specs.Line.{room, Holds};
 ghost use Rattle.answering.specs.Answer.{answered};
 ghost use Rattle.answering.specs.Writing.{opening_of, code_of, spread, page_of, rest_of, wrote_of};
 
 use crate::answer::Shown;
-use cells::parts::{least, words};
+use cells::parts::words;
 use text::line::Line;
 use text::{listing, page};
 
@@ -18,41 +18,34 @@ pub struct Sheet {
 }
 
 // What an answer begins with: `bad input`, or the number with its place, or 11 and that the listing is larger than is held.
+#[tactic(auto, unfolding(crate::specs::Writing::opening_of))]
 fn opening(shown: Shown) -> Line
     ensures { Holds result (opening_of shown) }
 {
-    if shown.bad {
-        return listing::bad_line();
+    match shown {
+        Shown::Bad => listing::bad_line(),
+        Shown::Larger => listing::larger_lines(),
+        Shown::Said { answer, .. } => listing::answer_line(answer),
     }
-    if shown.larger {
-        return listing::larger_lines();
-    }
-    listing::answer_line(shown.answer)
 }
 
 // The words of the code whose lines follow what an answer begins with.
+#[tactic(auto, unfolding(crate::specs::Writing::code_of))]
 fn lines(shown: Shown, code: &[u32]) -> &[u32]
     ensures { result.now ≡ code_of (answered shown code.now) }
 {
-    if shown.bad {
-        return words(code, 0);
+    match shown {
+        Shown::Bad => &[],
+        Shown::Larger => &[],
+        Shown::Said { length, .. } => words(code, length),
     }
-    words(code, shown.length)
 }
 
-// The page that comes next: what the answer begins with, or the lines from an instruction on, or none behind the last.
-pub fn page(shown: Shown, begun: bool, from: usize, code: &[u32], buffer: &mut [u8]) -> Sheet
+// The first page: what the answer begins with.
+pub fn first(shown: Shown, buffer: &mut [u8]) -> Sheet
     requires { room ≤ length buffer.old }
-    ensures { spread result buffer.new ≡ page_of (answered shown code.now) begun from buffer.old }
+    ensures { (code : List ℕ) (from : ℕ) → spread result buffer.new ≡ page_of (answered shown code) false from buffer.old }
 {
-    if begun {
-        let filled = page::fill(lines(shown, code), from, buffer);
-        return Sheet {
-            from: 0,
-            len: filled.len,
-            next: filled.next,
-        };
-    }
     let len = page::lay(buffer, 0, opening(shown));
     Sheet {
         from: 0,
@@ -61,12 +54,25 @@ pub fn page(shown: Shown, begun: bool, from: usize, code: &[u32], buffer: &mut [
     }
 }
 
+// A page behind the first: the lines from an instruction on, or none behind the last.
+pub fn later(shown: Shown, from: usize, code: &[u32], buffer: &mut [u8]) -> Sheet
+    requires { room ≤ length buffer.old }
+    ensures { spread result buffer.new ≡ page_of (answered shown code.now) true from buffer.old }
+{
+    let filled = page::fill(lines(shown, code), from, buffer);
+    Sheet {
+        from: 0,
+        len: filled.len,
+        next: filled.next,
+    }
+}
+
 // What of a page is still to be written.
 pub fn rest(sheet: Sheet, buffer: &[u8]) -> &[u8]
     ensures { result.now ≡ rest_of (spread sheet buffer.now) }
 {
-    let end = least(sheet.len, buffer.len());
-    let from = least(sheet.from, end);
+    let end = sheet.len.min(buffer.len());
+    let from = sheet.from.min(end);
     &buffer[from..end]
 }
 
@@ -80,9 +86,8 @@ pub fn wrote(shown: Shown, sheet: Sheet, n: usize, code: &[u32], buffer: &mut [u
     if n < left {
         return Sheet {
             from: sheet.from + n,
-            len: sheet.len,
-            next: sheet.next,
+            ..sheet
         };
     }
-    page(shown, true, sheet.next, code, buffer)
+    later(shown, sheet.next, code, buffer)
 }

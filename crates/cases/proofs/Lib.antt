@@ -1,3 +1,2 @@
--- Why a table may be cut to its buffer; what the printing of a number below 0 needs.
+-- Why a table may be cut to its buffer.
 pub mod Cut
-pub mod Below

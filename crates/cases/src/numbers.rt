@@ -1,94 +1,54 @@
-// Numbers, one a line. A line that is none, or is missing, leaves the reader refused; a refused reader reads nothing more.
-use crate::stream;
-use crate::stream::{Reader, Source};
-use cells::table;
+// Numbers, one a line. A line that is none, or is missing, ends the cases of the file.
+use crate::error::CaseError;
+use crate::stream::Source;
 
-// A signed number that was read.
-#[derive(Clone, Copy)]
-pub struct Number {
-    pub reader: Reader,
-    pub value: i32,
+// A number that stands on a line of its own.
+pub trait Number: Copy {
+    // Reads the next line as such a number.
+    fn read(source: &mut Source) -> Result<Self, CaseError>;
 }
 
-// A number of at most 32 bits, without a sign, that was read.
-#[derive(Clone, Copy)]
-pub struct Natural {
-    pub reader: Reader,
-    pub value: u32,
-}
-
-// A count that was read: how many numbers, cases or ticks follow.
-#[derive(Clone, Copy)]
-pub struct Amount {
-    pub reader: Reader,
-    pub value: usize,
-}
-
-// Reads a signed number.
-pub fn signed(r: Reader, source: &mut Source) -> Number {
-    if !r.ok {
-        return Number {
-            reader: r,
-            value: 0,
-        };
-    }
-    let line = stream::next(r, source);
-    let number = line.part.signed();
-    let mut reader = line.reader;
-    if line.ended | !number.ok {
-        reader.ok = false;
-    }
-    Number {
-        reader,
-        value: number.value,
+// A signed number.
+impl Number for i32 {
+    fn read(source: &mut Source) -> Result<i32, CaseError> {
+        let line = source.line()?.ok_or(CaseError::Bad)?;
+        line.signed().ok_or(CaseError::Bad)
     }
 }
 
-// Reads a number without a sign.
-pub fn unsigned(r: Reader, source: &mut Source) -> Natural {
-    if !r.ok {
-        return Natural {
-            reader: r,
-            value: 0,
-        };
-    }
-    let line = stream::next(r, source);
-    let number = line.part.word();
-    let mut reader = line.reader;
-    if line.ended | !number.ok {
-        reader.ok = false;
-    }
-    Natural {
-        reader,
-        value: number.value,
+// A number of at most 32 bits, without a sign.
+impl Number for u32 {
+    fn read(source: &mut Source) -> Result<u32, CaseError> {
+        let line = source.line()?.ok_or(CaseError::Bad)?;
+        line.word().ok_or(CaseError::Bad)
     }
 }
 
-// Reads a count of what follows; one below 0 is refused.
-pub fn count(r: Reader, source: &mut Source) -> Amount {
-    let number = signed(r, source);
-    let reader = number.reader;
-    if number.value < 0 {
-        return Amount {
-            reader: stream::refused(reader),
-            value: 0,
-        };
-    }
-    Amount {
-        reader,
-        value: table::index(number.value),
+// The same as a count of the machine.
+impl Number for usize {
+    fn read(source: &mut Source) -> Result<usize, CaseError> {
+        // A word always fits.
+        Ok(u32::read(source)? as usize)
     }
 }
 
-// Reads the end of the file; the reader is refused where a line follows.
-pub fn finish(r: Reader, source: &mut Source) -> Reader {
-    if !r.ok {
-        return r;
+// Reads how many numbers, cases or ticks follow; a number below 0 is refused.
+pub fn count(source: &mut Source) -> Result<usize, CaseError> {
+    usize::try_from(i32::read(source)?).map_err(|_| CaseError::Bad)
+}
+
+// Reads as many numbers as there is room for.
+pub fn fill<T: Number>(source: &mut Source, out: &mut [T]) -> Result<(), CaseError> {
+    for place in out.iter_mut() {
+        *place = T::read(source)?;
     }
-    let line = stream::next(r, source);
-    let mut reader = line.reader;
-    if !line.ended {
-        reader.ok = false;
+    Ok(())
+}
+
+// Reads the end of the file; a line that follows is refused.
+pub fn finish(source: &mut Source) -> Result<(), CaseError> {
+    match source.line()? {
+        None => Ok(()),
+        Some(_) => Err(CaseError::Bad),
     }
-    reader
 }

@@ -1,6 +1,8 @@
--- The refusal numbers of document 01 by name. They are the constants of `refusals` in the code; accepted is `accepted_number` in
+-- The refusal numbers of document 01 by name. They are the numbers of `Refusal` in the code; accepted is `accepted_number` in
 -- theory/specs/Verdict.
 use Rattle.std.specs.Prelude.{ℕ}
+use Rattle.cells.specs.declared.refusals.Refusal.{Refusal}
+use Rattle.cells.specs.declared.refusals.Refusal.TheVariants.{Shape, Fields, TaskPorts, Copies, ModePorts, Invocations, Updates, Switches, Units, Whole, Code, Windows, Schedule, Outside, Late, Time, Overrun, Collision, Faulty, Count, State, Gap}
 
 abbrev pub shape_refused : ℕ
 shape_refused = 1
@@ -79,3 +81,28 @@ state_refused = 21
 -- a mode's switches look at a sensor, and none of them is for its missing reading alone; tested after 10
 abbrev pub gap_refused : ℕ
 gap_refused = 24
+
+-- the number of a refusal
+abbrev pub number_of : Refusal → ℕ
+number_of Shape = shape_refused
+number_of Fields = fields_refused
+number_of TaskPorts = task_ports_refused
+number_of Copies = copies_refused
+number_of ModePorts = mode_ports_refused
+number_of Invocations = invocations_refused
+number_of Updates = updates_refused
+number_of Switches = switches_refused
+number_of Units = units_refused
+number_of Whole = whole_refused
+number_of Code = code_refused
+number_of Windows = windows_refused
+number_of Schedule = schedule_refused
+number_of Outside = outside_refused
+number_of Late = late_refused
+number_of Time = time_refused
+number_of Overrun = overrun_refused
+number_of Collision = collision_refused
+number_of Faulty = faulty_refused
+number_of Count = count_refused
+number_of State = state_refused
+number_of Gap = gap_refused

@@ -6,16 +6,6 @@ pub mod port {
     pub(crate) const KIND: usize = 0;
 
     pub(crate) const FIRST: usize = 1;
-    // The values of KIND: the kinds of port.
-    pub const SENSOR: usize = 0;
-
-    pub const ACTUATOR: usize = 1;
-
-    pub const INPUT: usize = 2;
-
-    pub const OUTPUT: usize = 3;
-
-    pub const PRIVATE: usize = 4;
 }
 
 pub mod task {
@@ -44,10 +34,6 @@ pub mod driver {
     pub(crate) const LOW: usize = 2;
 
     pub(crate) const HIGH: usize = 3;
-    // The values of KIND: the kinds of guard.
-    pub const ALWAYS: usize = 0;
-
-    pub const INTERVAL: usize = 1;
 }
 
 pub mod copy {
@@ -139,8 +125,4 @@ pub mod schedule {
     pub const TASK: usize = 3;
 
     pub const TIMEOUT: usize = 4;
-    // The values of KIND: the kinds of schedule row.
-    pub const DISPATCH: usize = 0;
-
-    pub const IDLE: usize = 1;
 }

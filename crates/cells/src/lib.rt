@@ -2,6 +2,7 @@
 // Every access is total.
 #![tactic(auto)]
 
+pub mod codes;
 pub mod columns;
 pub mod drivers;
 pub mod kinds;

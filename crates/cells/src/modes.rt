@@ -8,6 +8,7 @@ use crate::kinds::Mode;
 use crate::table;
 
 // Mode m is declared.
+// As for ports: a number of one kind never indexes another's table.
 pub fn declared(modes: &[i32], m: Mode) -> bool
     ensures { result ≡ ltb m.0 (rows_in mode_width modes.now) }
 {
@@ -25,12 +26,12 @@ pub fn period(modes: &[i32], m: Mode) -> usize
 pub fn number(list: &[usize], m: Mode) -> usize
     ensures { result ≡ get_or list.now m.0 0 }
 {
-    table::count(list, m.index())
+    table::at(list, m.index(), 0)
 }
 
 // A number is put for mode m; where there are not so many, none is.
 pub fn put_number(list: &mut [usize], m: Mode, n: usize)
     ensures { list.new ≡ set list.old m.0 n }
 {
-    table::put_count(list, m.index(), n);
+    table::put(list, m.index(), n);
 }

@@ -1,25 +1,15 @@
 // A part of a slice, cut to what there is.
-ghost use Rattle.std.specs.Prelude.{◌*◌, min, ◌≡◌, take, drop};
+ghost use Rattle.std.specs.Prelude.{◌*◌, ◌≡◌, take, drop};
 ghost use Rattle.cells.specs.Limits.{words_each};
 
 use crate::limits::Program;
-
-// The smaller of two numbers.
-pub fn least(a: usize, b: usize) -> usize
-    ensures { result ≡ min a b }
-{
-    if a < b {
-        return a;
-    }
-    b
-}
 
 // The n numbers of a room from a place on, or as many as there are.
 pub fn part(room: &[i32], at: usize, n: usize) -> &[i32]
     ensures { result.now ≡ take n (drop at room.now) }
 {
-    let from = least(at, room.len());
-    let end = from + least(n, room.len() - from);
+    let from = at.min(room.len());
+    let end = from + n.min(room.len() - from);
     &room[from..end]
 }
 

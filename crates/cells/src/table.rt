@@ -1,23 +1,30 @@
 // Total access to a lent table by place, and by row and column. Past the end stands 0.
-ghost use Rattle.std.specs.Prelude.{◌≡◌, ◌≤◌, get_or, set};
-ghost use Rattle.cells.specs.Cell.{Column, cell_at, index_of, num_at, word_at, greatest_word, field_at, named_at, value_at};
+ghost use Rattle.std.specs.Prelude.{◌≡◌, get_or, set};
+ghost use Rattle.cells.specs.Cell.{Column, index_of, num_at, word_at, field_at, named_at, value_at};
 
-use crate::kinds::{Driver, Mode, Port, Task};
+use crate::kinds::Kind;
 
-// The signed number at a place of a slice; past the end stands 0.
-pub(crate) fn value(t: &[i32], at: usize) -> i32
-    ensures { result ≡ cell_at t.now at }
+// What stands at a place of a slice; past the end stands what is named instead.
+pub fn at<T: Copy>(t: &[T], place: usize, instead: T) -> T
+    ensures { result ≡ get_or t.now place instead }
 {
-    if at < t.len() {
-        return t[at];
+    t.get(place).copied().unwrap_or(instead)
+}
+
+// A value is put at a place of a slice; past the end nothing is put. (Nothing is said of what a slice ends as behind `get_mut`.)
+pub fn put<T: Copy>(t: &mut [T], place: usize, value: T)
+    ensures { t.new ≡ set t.old place value }
+{
+    if place < t.len() {
+        t[place] = value;
     }
-    0
 }
 
 // A number that is out of range wherever document 01 has a range.
 pub const OUT_OF_RANGE: usize = 2147483648;
 
-// A signed number as one that counts or names; a negative one is out of every range.
+// A signed number as one that counts or names; a negative one is out of every range. It is asked of each field that is read, and
+// `try_from` takes five instructions more.
 pub fn index(x: i32) -> usize
     ensures { result ≡ index_of x }
 {
@@ -28,61 +35,20 @@ pub fn index(x: i32) -> usize
 }
 
 // The number at a place of a slice, as one that counts or names; past the end stands 0.
-pub(crate) fn num(t: &[i32], at: usize) -> usize
-    ensures { result ≡ num_at t.now at }
+#[tactic(auto, unfolding(crate::specs::Cell::num_at))]
+pub(crate) fn num(t: &[i32], place: usize) -> usize
+    ensures { result ≡ num_at t.now place }
 {
-    if at < t.len() {
-        return index(t[at]);
-    }
-    0
+    index(at(t, place, 0))
 }
 
 // The word at a place of E code; past the end stands 0.
-pub fn word(code: &[u32], at: usize) -> usize
-    ensures { result ≡ word_at code.now at }
+#[tactic(auto, unfolding(crate::specs::Cell::word_at))]
+pub fn word(code: &[u32], place: usize) -> usize
+    ensures { result ≡ word_at code.now place }
 {
-    if at < code.len() {
-        return code[at] as usize;
-    }
-    0
-}
-
-// A word is put at a place of E code; past the end nothing is put.
-pub fn put(code: &mut [u32], at: usize, n: usize)
-    requires { n ≤ greatest_word }
-    ensures { code.new ≡ set code.old at n }
-{
-    if at < code.len() {
-        code[at] = n as u32;
-    }
-}
-
-// A value is put at a place of a slice; past the end nothing is put.
-pub fn put_value(t: &mut [i32], at: usize, v: i32)
-    ensures { t.new ≡ set t.old at v }
-{
-    if at < t.len() {
-        t[at] = v;
-    }
-}
-
-// The count at a place of a list of counts; past the end stands 0.
-pub(crate) fn count(list: &[usize], at: usize) -> usize
-    ensures { result ≡ get_or list.now at 0 }
-{
-    if at < list.len() {
-        return list[at];
-    }
-    0
-}
-
-// A count is put at a place of a list of counts; past the end nothing is put.
-pub(crate) fn put_count(list: &mut [usize], at: usize, n: usize)
-    ensures { list.new ≡ set list.old at n }
-{
-    if at < list.len() {
-        list[at] = n;
-    }
+    // A word always fits, and `as` is what compiles to nothing.
+    at(code, place, 0) as usize
 }
 
 // A column of a row of a table, as a number that counts.
@@ -102,39 +68,15 @@ pub(crate) fn signed(t: &[i32], width: usize, row: usize, column: usize) -> i32
     ensures { result ≡ value_at width column t.now row }
 {
     if row < t.len() {
-        return value(t, row * width + column);
+        return at(t, row * width + column, 0);
     }
     0
 }
 
-// The port that a row of a table names in a column.
-pub fn port(t: &[i32], width: usize, row: usize, column: usize) -> Port
+// What a row of a table names in a column: a port, a task, a driver or a mode.
+pub fn named<K: Kind>(t: &[i32], width: usize, row: usize, column: usize) -> K
     requires { Column width column }
-    ensures { result.0 ≡ named_at width column t.now row }
+    ensures { K.number result ≡ named_at width column t.now row }
 {
-    Port::of(field(t, width, row, column))
-}
-
-// The task that a row of a table names in a column.
-pub fn task(t: &[i32], width: usize, row: usize, column: usize) -> Task
-    requires { Column width column }
-    ensures { result.0 ≡ named_at width column t.now row }
-{
-    Task::of(field(t, width, row, column))
-}
-
-// The driver that a row of a table names in a column.
-pub fn driver(t: &[i32], width: usize, row: usize, column: usize) -> Driver
-    requires { Column width column }
-    ensures { result.0 ≡ named_at width column t.now row }
-{
-    Driver::of(field(t, width, row, column))
-}
-
-// The mode that a row of a table names in a column.
-pub fn mode(t: &[i32], width: usize, row: usize, column: usize) -> Mode
-    requires { Column width column }
-    ensures { result.0 ≡ named_at width column t.now row }
-{
-    Mode::of(field(t, width, row, column))
+    K::of(field(t, width, row, column))
 }

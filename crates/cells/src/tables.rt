@@ -4,6 +4,23 @@ use crate::columns::{
 };
 use crate::limits::Program;
 
+// The ten tables of a program, as they are lent.
+#[derive(Clone, Copy)]
+pub struct ProgramTables<'a> {
+    pub ports: &'a [i32],
+    pub tasks: &'a [i32],
+    pub task_ports: &'a [i32],
+    pub drivers: &'a [i32],
+    pub copies: &'a [i32],
+    pub modes: &'a [i32],
+    pub mode_ports: &'a [i32],
+    pub invocations: &'a [i32],
+    pub updates: &'a [i32],
+    pub switches: &'a [i32],
+}
+
+// The numbers of the tables, as a place names them.
+// Numbers and no enum: an answer says them as its place, and arrays by table are indexed with them.
 pub const PORTS: usize = 0;
 
 pub const TASKS: usize = 1;

@@ -8,6 +8,7 @@ use crate::kinds::Task;
 use crate::table;
 
 // Task t is declared.
+// As for ports: a number of one kind never indexes another's table.
 pub fn declared(tasks: &[i32], t: Task) -> bool
     ensures { result ≡ ltb t.0 (rows_in task_width tasks.now) }
 {
@@ -39,12 +40,12 @@ pub fn time(times: &[i32], t: Task) -> usize
 pub fn left(left: &[usize], t: Task) -> usize
     ensures { result ≡ get_or left.now t.0 0 }
 {
-    table::count(left, t.index())
+    table::at(left, t.index(), 0)
 }
 
 // A remaining time is put for task t; where there are not so many, none is.
 pub fn put_left(left: &mut [usize], t: Task, time: usize)
     ensures { left.new ≡ set left.old t.0 time }
 {
-    table::put_count(left, t.index(), time);
+    table::put(left, t.index(), time);
 }

@@ -1,4 +1,5 @@
 -- E code, the one listing of a program, and compiling.
 pub mod Op
+pub mod Opcodes
 pub mod Listing
 pub mod Compile

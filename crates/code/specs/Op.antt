@@ -12,7 +12,7 @@ pub data Op : Type 0 where
   return : Op
   faulty : Op
 
--- the numbers of the six, which are the constants in src/numbers.rt; and one that no instruction has
+-- the numbers of the six, which `Opcode` names (src/opcode.rt); and one that no instruction has
 abbrev pub call_number : ℕ
 call_number = 0
 

@@ -3,7 +3,7 @@
 
 use theory::Answer;
 
-pub mod numbers;
+pub mod opcode;
 
 // What compiling answers beside the slice: number and place, and the length in instructions, which is 0 where it refuses.
 #[derive(Clone, Copy)]

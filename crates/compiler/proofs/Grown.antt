@@ -1,6 +1,6 @@
 -- A loop that writes piece after piece: what was written is the pieces so far. Where each piece begins, and how far it can reach.
 use Prim.Native.Nat.{ℕ, ◌+◌, ◌≤◌, ◌<◌}
-use mathlib.Core.Path.{◌≡◌, refl, sym, ap, ◌∙◌}
+use mathlib.Core.Path.{◌≡◌, sym, ap, ◌∙◌}
 use mathlib.Core.List.{List}
 use native.Mathlib.Numerals.{add-one}
 use native.Mathlib.Omega.{arith}
@@ -8,7 +8,7 @@ use lib.ListN.{length}
 use Rattle.theory.specs.Lists.{cat, sum}
 use Rattle.theory.proofs.Lists.{cat-length}
 use Rattle.words.specs.Written.{Words, Written, writes}
-use Rattle.words.proofs.Written.{writes_then, writes-length, written_at}
+use Rattle.words.proofs.Written.{writes_then, written_at}
 
 -- after i of n pieces the loop is at `here`: it has written the first i pieces
 pub record Grown (piece : ℕ → List Words) (n i : ℕ) (start here : Written) : Type 0 where
@@ -16,10 +16,6 @@ pub record Grown (piece : ℕ → List Words) (n i : ℕ) (start here : Written)
   pub same : here ≡ writes (cat piece i) start
 
 module _ {piece : ℕ → List Words} {n : ℕ} {start : Written} where
-  -- before the first piece nothing is written
-  pub grown-none : Grown piece n 0 start start
-  grown-none = record { in-range = omega arith; same = refl }
-
   module _ {i : ℕ} {here : Written} (h : Grown piece n i start here) where
     -- the loop writes one piece more
     pub grown-more : {there : Written} → i < n → there ≡ writes (piece i) here → Grown piece n (i + 1) start there
@@ -28,14 +24,6 @@ module _ {piece : ℕ → List Words} {n : ℕ} {start : Written} where
           in-range = omega arith;
           same = writes_then start (cat piece i) (piece i) h.same e ∙ ap (λ (k : ℕ). writes (cat piece k) start) (sym (add-one i));
         }
-
-    -- behind the last piece all pieces are written
-    pub grown-all : n ≤ i → here ≡ writes (cat piece n) start
-    grown-all l = let e : i ≡ n = omega (arith, h.in-range) in h.same ∙ ap (λ (k : ℕ). writes (cat piece k) start) e
-
-    -- the slice keeps its length as the loop goes on
-    pub grown-length : length here.code ≡ length start.code
-    grown-length = ap (λ (w : Written). length w.code) h.same ∙ writes-length (cat piece i) start
 
     -- the next piece begins where the sizes of those before it add up to
     pub grown-at : (size : ℕ → ℕ) → ((k : ℕ) → k < n → length (piece k) ≡ size k) → here.at ≡ start.at + sum size i

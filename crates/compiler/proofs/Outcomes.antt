@@ -5,12 +5,13 @@ use mathlib.Core.Bool.{Bool, true, false, ◌||◌, cond}
 use mathlib.Core.List.{List, ◌∷◌, map}
 use native.Mathlib.Omega.{arith}
 use lib.Dec.{ltb}
-use lib.ListN.{length, get_or}
+use lib.ListN.{length, get_or, replicate}
 use borrow.Author.Tests.{ltb-false}
 use Rattle.theory.specs.Rows.{placeless}
 use Rattle.theory.specs.Verdict.{accepted_number, or_else, within, first_refusal, or_next}
 use Rattle.theory.specs.declared.Answer.{Answer}
 use Rattle.theory.proofs.Bools.{neither}
+use Rattle.theory.proofs.Filled.{zeros-at}
 use Rattle.theory.proofs.Verdict.{next-given, next-none, answer-number, answer-append, answer-within}
 use Rattle.cells.specs.Limits.{max_code, words_each}
 use Rattle.cells.specs.Refusals.{code_refused}
@@ -22,10 +23,14 @@ use Rattle.rules.proofs.Verdict.{program-number}
 use Rattle.code.specs.Listing.{block_address}
 use Rattle.code.specs.Compile.{Compiling, listing_of, code_long, slice_short, slice_refusals, compile_refusals, compile_verdict}
 use Rattle.code.specs.declared.Compiled.{Compiled}
-use Rattle.layout.specs.Layout.{LaidOut}
+use Rattle.layout.specs.Layout.{LaidOut, Small}
 use Rattle.words.specs.Written.{Words, three, Written, written, writes}
 use Rattle.compiler.specs.Modes.{all_in}
-use Rattle.compiler.specs.Listed.{compiling, Compilation, outcome, compiled, refused, accepted, listed}
+use Rattle.answers.specs.declared.Refused.{Refused}
+use Rattle.answers.specs.Answers.{answer_of}
+use Rattle.answers.proofs.Told.{refusal-some}
+use Rattle.std.specs.Prelude.{Result, Ok, Err}
+use Rattle.compiler.specs.Listed.{compiled_of, compiling, Compilation, outcome, compiled, refused, accepted, listed}
 use Rattle.words.proofs.Written.{writes-emit}
 use Rattle.compiler.proofs.Listed.{all_same}
 
@@ -91,16 +96,30 @@ module _ (L : Compiling) where
       go true = refl
       go false = refl
 
+-- where the verdict on the program is a refusal, the outcome is that refusal
+pub verdict-refused : (T : Tables) (slice : List ℕ) {r : Result (Unit {0}) Refused} {told : Result ℕ Refused} {e : Refused}
+    → answer_of r ≡ program_answer T → r ≡ Err e → told ≡ Err e → outcome (compiled_of told) slice ≡ compiled (compiling T slice)
+verdict-refused T slice {e = e} h f g =
+    ap (λ (r : Result ℕ Refused). outcome (compiled_of r) slice) g
+    ∙ compiled-refused (compiling T slice) (answer_of {A = Unit {0}} (Err e)) (sym (ap answer_of f) ∙ h) (refusal-some e.refusal)
+
+-- where it is none, the program is accepted
+pub verdict-passed : (T : Tables) {r : Result (Unit {0}) Refused} {v : Unit {0}} → answer_of r ≡ program_answer T → r ≡ Ok v
+    → program_verdict T ≡ accepted_number
+verdict-passed T h f = sym (program-number T) ∙ ap (λ (x : Answer). x.number) (sym h ∙ ap answer_of f)
+
+-- a list of zeros has no number beyond the longest code
+pub zeros-small : (n : ℕ) → Small (replicate n 0)
+zeros-small n m = omega (arith, zeros-at n m)
+
 -- where what was written is the listing, the outcome is that of a program that number 11 passes
 pub all-written : (T : Tables) (a : program_verdict T ≡ accepted_number) {starts entries : List ℕ} {n : ℕ} → LaidOut T starts entries n
     → mode_count T ≤ length starts → mode_count T ≤ length entries → {start : ℕ} → start ≡ start_mode T → (slice exit : List ℕ) (next : ℕ)
     → written exit next ≡ writes (all_in T entries (get_or starts start 0)) (written slice 0)
     → (ltb max_code n || ltb (length slice) (words_each * n)) ≡ false
-    → {x : Answer} → x ≡ placeless accepted_number
-    → outcome (record { answer = x; length = n }) exit ≡ listed (compiling T slice)
-all-written T a {starts} {entries} {n} laid s r {start} q slice exit next w b e =
-    ap (λ (x : Answer). outcome (record { answer = x; length = n }) exit) e
-    ∙ ap₂ (λ (n : ℕ) (s : List ℕ). outcome (record { answer = placeless accepted_number; length = n }) s) laid.length
+    → outcome (record { answer = placeless accepted_number; length = n }) exit ≡ listed (compiling T slice)
+all-written T a {starts} {entries} {n} laid s r {start} q slice exit next w b =
+    ap₂ (λ (n : ℕ) (s : List ℕ). outcome (record { answer = placeless accepted_number; length = n }) s) laid.length
     (ap (λ (v : Written). v.code) (w ∙ ap (λ (os : List Words). writes os (written slice 0)) same ∙ writes-emit (listing_of T) slice fits))
     ∙ listed-accepted (compiling T slice) (sym (long-told (compiling T slice) n laid.length) ∙ b)
   where

@@ -15,13 +15,12 @@ use Rattle.program.proofs.Decoded.{sensors-rows, due-invocations, due-updates, d
 use Rattle.code.specs.Op.{Op, schedule, jump}
 use Rattle.code.specs.Listing.{call_driver, call_output, call_sensor, entry_address, head_of, body_of, stubs_of}
 use Rattle.words.specs.Written.{Words, three}
-use Rattle.writing.specs.Rows.{is_due, due_at, form_rows, reading}
+use Rattle.writing.specs.Rows.{is_due, due_at, updates_in, reading}
 use Rattle.writing.specs.Switches.{switches_in, stubs_in}
 use Rattle.writing.specs.Block.{head_in, body_in}
 use Rattle.compiler.specs.Rounds.{unit_of}
 use Rattle.compiler.specs.Modes.{round_of}
-use Rattle.writing.specs.declared.rows.Form.{Form}
-use Rattle.writing.specs.declared.rows.Instant.{Instant}
+use Rattle.layout.specs.declared.counts.Instant.{Instant}
 
 module _ (T : Tables) (m k : ℕ) where
   -- unit k of mode m
@@ -39,7 +38,7 @@ module _ (T : Tables) (m k : ℕ) where
       ∙ map-those three p (λ i. f (invocation_row T i)) n 0
 
   -- the due updates are written from the rows of their table
-  updates-written : map three (map (λ (r : Update). call_driver r.driver) (due_updates (mode_row T m) k)) ≡ form_rows Form.Update T.updates when
+  updates-written : map three (map (λ (r : Update). call_driver r.driver) (due_updates (mode_row T m) k)) ≡ updates_in T.updates when
   updates-written =
       let p = is_due update_width T.updates when in
       let n = rows_in update_width T.updates in

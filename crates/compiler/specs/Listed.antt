@@ -1,14 +1,21 @@
 -- What compiling answers, together with the slice as it is left: for every program, and for one that numbers 1 to 10 and 24 pass.
-use Rattle.std.specs.Prelude.{ℕ, ◌*◌, true, false, ◌||◌, List, ◌++◌, length, drop}
+use Rattle.std.specs.Prelude.{ℕ, ◌*◌, true, false, ◌||◌, List, ◌++◌, length, drop, Result, Ok, Err}
 use Rattle.theory.specs.Rows.{placeless}
 use Rattle.theory.specs.Verdict.{accepted_number}
 use Rattle.theory.specs.declared.Answer.{Answer}
+use Rattle.answers.specs.Answers.{answer_of}
+use Rattle.answers.specs.declared.Refused.{Refused}
 use Rattle.cells.specs.Limits.{words_each}
 use Rattle.cells.specs.Refusals.{code_refused}
 use Rattle.program.specs.Tables.{Tables}
 use Rattle.code.specs.Op.{emit}
 use Rattle.code.specs.Compile.{Compiling, listing_of, code_long, slice_short, compile_answer, compile_slice}
 use Rattle.code.specs.declared.Compiled.{Compiled}
+
+-- what compiling comes to, as its answer in numbers and the length: that of the listing, or 0 where it refuses
+abbrev pub compiled_of : Result ℕ Refused → Compiled
+compiled_of (Ok n) = record { answer = answer_of {A = ℕ} (Ok n); length = n }
+compiled_of (Err e) = record { answer = answer_of {A = ℕ} (Err e); length = 0 }
 
 -- compiling that is lent these tables and this slice
 abbrev pub compiling : Tables → List ℕ → Compiling

@@ -6,7 +6,7 @@ use Rattle.layout.specs.declared.counts.Counts.{Counts}
 use Rattle.layout.specs.Counts.{before_future, size_of}
 use Rattle.words.specs.Written.{Words}
 use Rattle.writing.specs.Block.{parts_in, counts_at}
-use Rattle.writing.specs.declared.rows.Instant.{Instant}
+use Rattle.layout.specs.declared.counts.Instant.{Instant}
 use Rattle.writing.specs.declared.blocks.Aim.{Aim}
 use Rattle.compiler.specs.declared.rounds.Round.{Round}
 

@@ -21,7 +21,7 @@ use Rattle.program.specs.Ports.{value_of, assigned, drive}
 use Rattle.program.proofs.Decoded.{task-row, driver-row}
 use Rattle.runs.specs.Tick.{left_of}
 use Rattle.machine.specs.declared.State.{State}
-use Rattle.machine.specs.declared.Advanced.{Advanced}
+use Rattle.machine.specs.Advance.{Advanced}
 use Rattle.machine.specs.Change.{with_ports}
 use Rattle.machine.specs.Instruction.{Call, driver_call, output_call, sensor_call, call_of, names_nothing, still_called, called}
 use Rattle.machine.proofs.Instructions.{driver-range, output-range, sensor-range}

@@ -8,7 +8,6 @@ use native.Mathlib.Omega.{arith}
 use lib.Dec.{ltb, leb}
 use lib.IntN.{ℤ, pos}
 use lib.ListN.{length}
-use denote.Ref.{Bor}
 use borrow.Author.Tests.{not-false, ltb-true, ltb-false, leb-false, lt-leb}
 use Rattle.theory.specs.Lists.{member}
 use Rattle.theory.proofs.Bools.{iff, is_true}
@@ -16,6 +15,7 @@ use Rattle.theory.proofs.Members.{has-those, member-says}
 use Rattle.cells.specs.Cell.{unnamed, name_of, rows_in}
 use Rattle.cells.specs.Limits.{max_ports, max_tasks, max_drivers}
 use Rattle.cells.proofs.Names.{name-small, name_below}
+use Rattle.cells.specs.declared.tables.ProgramTables.{ProgramTables}
 use Rattle.program.specs.Tables.{Tables, tables_in, port_count, sensor, task_width, task_count, driver_width, driver_count}
 use Rattle.program.specs.Sets.{is_kind}
 use Rattle.program.specs.Program.{Program, program_of}
@@ -25,10 +25,10 @@ use Rattle.rules.specs.Shape.{Shaped, InShape}
 use Rattle.rules.proofs.Shape.{shape-bars, whole-few, ports-few, tasks-few}
 
 -- the program of tables that are lent, with a start mode
-abbrev pub program_in : List (Bor (List ℤ)) → ℤ → Program
+abbrev pub program_in : ProgramTables → ℤ → Program
 program_in lent start = program_of (tables_in lent start)
 
-module _ (lent : List (Bor (List ℤ))) (s : InShape lent) where
+module _ (lent : ProgramTables) (s : InShape lent) where
   -- tables in shape are so with any start mode
   abbrev shaped : Shaped (tables_in lent (pos 0))
   shaped = (shape-bars (tables_in lent (pos 0))).ok (s (pos 0))

@@ -22,11 +22,11 @@ use Rattle.program.proofs.Decoded.{task-row, driver-row}
 use Rattle.rules.specs.Fields.{in_range}
 use Rattle.runs.specs.Tick.{left_of}
 use Rattle.code.specs.Op.{call, schedule, branch, jump, decode, call_number, schedule_number, if_number, jump_number}
-use Rattle.machine.specs.declared.Advanced.{Advanced}
+use Rattle.machine.specs.Advance.{Advanced}
 use Rattle.machine.specs.declared.At.{At}
 use Rattle.machine.specs.Change.{with_left}
 use Rattle.machine.specs.Instruction.{call_of, names_nothing, is_faulty, still_called}
-use Rattle.instants.specs.declared.instructions.Stepped.{Stepped}
+use Rattle.instants.specs.Step.{Stepped}
 use Rattle.instants.specs.Step.{call_answer, stepped}
 use Rattle.instants.proofs.Declared.{row_named, task-past, driver-past}
 use Rattle.instants.proofs.Answered.{answered, answered-call}

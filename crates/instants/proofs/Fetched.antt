@@ -9,10 +9,10 @@ use Rattle.cells.specs.Cell.{word_at}
 use Rattle.cells.specs.Limits.{words_each}
 use Rattle.cells.specs.Refusals.{faulty_refused}
 use Rattle.program.specs.Program.{Program}
-use Rattle.code.specs.Op.{Op, faulty, call_number, schedule_number, if_number, jump_number, future_number, return_number, decode, instructions}
+use Rattle.code.specs.Op.{Op, faulty, no_number, decode, instructions}
 use Rattle.code.proofs.Fetch.{instructions-length, instruction-read, decode-unknown}
 use Rattle.machine.specs.declared.At.{At}
-use Rattle.instants.specs.declared.instructions.Stepped.{Stepped}
+use Rattle.instants.specs.Step.{Stepped}
 use Rattle.instants.specs.Step.{stepped, step_at}
 use Rattle.instants.proofs.Steps.{refused_with, step-faulty}
 
@@ -35,10 +35,10 @@ module _ (P : Program) (readings times : List ℤ) (code : List ℕ) (a : At) wh
         ∙ ap (λ (o : Op). stepped P readings times (length (instructions code)) o a) (instruction-read code a.address n first second l (sym e ∙ w) x y)
 
     -- an instruction that has none of the six numbers is refused with 19
-    pub fetched-unknown : (number ≡ call_number → ⊥) → (number ≡ schedule_number → ⊥) → (number ≡ if_number → ⊥) → (number ≡ jump_number → ⊥)
-        → (number ≡ future_number → ⊥) → (number ≡ return_number → ⊥)
-        → refused_with a faulty_refused ≡ step_at P readings times (instructions code) a
-    fetched-unknown c s i j f r =
+    pub fetched-unknown : no_number ≤ number → refused_with a faulty_refused ≡ step_at P readings times (instructions code) a
+    fetched-unknown h =
         fetched (refused_with a faulty_refused) number refl
         (step-faulty P readings times (length code / words_each) a faulty refl
-        ∙ ap (λ (o : Op). stepped P readings times (length code / words_each) o a) (sym (decode-unknown number first second c s i j f r)))
+        ∙ ap (λ (o : Op). stepped P readings times (length code / words_each) o a)
+        (sym (decode-unknown number first second (λ e. omega (arith, e)) (λ e. omega (arith, e)) (λ e. omega (arith, e)) (λ e. omega (arith, e))
+        (λ e. omega (arith, e)) (λ e. omega (arith, e)))))

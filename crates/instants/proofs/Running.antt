@@ -16,13 +16,13 @@ use Rattle.program.specs.Program.{Program}
 use Rattle.code.specs.Op.{Op, call, schedule, branch, jump, future, return, faulty, instructions}
 use Rattle.code.proofs.Fetch.{instructions-length}
 use Rattle.machine.specs.declared.State.{State}
-use Rattle.machine.specs.declared.Advanced.{Advanced}
+use Rattle.machine.specs.Advance.{Advanced}
 use Rattle.machine.specs.declared.At.{At}
 use Rattle.machine.specs.Instruction.{executes}
 use Rattle.machine.specs.Instant.{ok, stop, is_return, ran_out, fetch, refusal_at, run_from, start_at, run_instant}
 use Rattle.machine.specs.Advance.{answer}
 use Rattle.machine.proofs.Instants.{passes, at_return, at-refusal}
-use Rattle.instants.specs.declared.instructions.Stepped.{Stepped}
+use Rattle.instants.specs.Step.{Stepped}
 use Rattle.instants.specs.Step.{stepped, step_at}
 
 -- after as many instructions as the code has, an address inside the code is refused with 20

@@ -20,7 +20,7 @@ use Rattle.machine.specs.declared.State.{State}
 use Rattle.machine.specs.declared.At.{At}
 use Rattle.machine.specs.Instruction.{is_faulty, time_bad, still_running, plan_at, executes}
 use Rattle.machine.specs.Instant.{is_return}
-use Rattle.instants.specs.declared.instructions.Stepped.{Stepped}
+use Rattle.instants.specs.Step.{Stepped}
 use Rattle.instants.specs.Step.{stepped}
 
 -- some unused word is not 0 exactly where their sum is not

@@ -8,41 +8,38 @@ ghost use Rattle.rules.specs.Shape.{InShape};
 ghost use Rattle.code.specs.Op.{instructions};
 ghost use Rattle.machine.specs.Instant.{ran_out, run_instant};
 ghost use Rattle.machine.specs.Advance.{answer};
+ghost use Rattle.machine.specs.Told.{advanced_of};
 
 use cells::limits::Program;
-use cells::refusals;
-use machine::{Advanced, At, State};
+use cells::refusals::Refusal;
+use cells::tables::ProgramTables;
+use instructions::Stepping;
+use machine::{At, State};
 
 mod calls;
 mod instructions;
 
-// What an instant comes to after as many instructions as the code has: 20 at an address inside the code, 19 at one past its end.
-fn spent(count: usize, address: usize, s: State) -> Advanced
-    ensures { result ≡ answer s (ran_out count address) }
+// What an instant comes to after as many instructions as the code has: too many at an address inside the code, faulty past its end.
+fn spent(count: usize, address: usize, s: State) -> Result<State, Refusal>
+    ensures { advanced_of s result ≡ answer s (ran_out count address) }
 {
     if address < count {
-        return Advanced {
-            number: refusals::COUNT,
-            state: s,
-        };
+        return Err(Refusal::Count);
     }
-    Advanced {
-        number: refusals::FAULTY,
-        state: s,
-    }
+    Err(Refusal::Faulty)
 }
 
 // The state after one instant, or its refusal with the state as it was.
 pub fn instant(
-    tables: &[&[i32]; Program::TABLES],
+    tables: &ProgramTables,
     code: &[u32],
     readings: &[i32],
     times: &[i32],
     s: State,
-) -> Advanced
+) -> Result<State, Refusal>
     requires { InShape tables.now }
     ensures { (start : ℤ) → let P = program_of (tables_in tables.now start) in
-        result ≡ answer s (run_instant P readings.now times.now (instructions code.now) s) }
+        advanced_of s result ≡ answer s (run_instant P readings.now times.now (instructions code.now) s) }
 {
     let count = code.len() / Program::WORDS;
     let mut at = At {
@@ -50,24 +47,11 @@ pub fn instant(
         planned: false,
         state: s,
     };
-    let mut more = count;
-    while 0 < more {
-        let next = instructions::step(tables, code, readings, times, at);
-        if refusals::ACCEPTED < next.number {
-            return Advanced {
-                number: next.number,
-                state: s,
-            };
+    for _done in 0..count {
+        match instructions::step(tables, code, readings, times, at)? {
+            Stepping::On(next) => at = next,
+            Stepping::Over(last) => return Ok(last.state),
         }
-        at = next.at;
-        if next.over {
-            let state = at.state;
-            return Advanced {
-                number: refusals::ACCEPTED,
-                state,
-            };
-        }
-        more -= 1;
     }
     spent(count, at.address, s)
 }

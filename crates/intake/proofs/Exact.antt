@@ -24,8 +24,7 @@ sound-fresh room h =
     record {
       fresh = λ e. (refl, refl);
       few = omega arith;
-      begins-all = refl;
-      lens-all = refl;
+      spans-all = refl;
       apart = λ k b. absurd (omega arith);
       enough = omega arith;
     }

@@ -1,23 +1,27 @@
 -- One line more in the middle of a text that is not decided: the intake stays sound, and what the definition says of the lines that
 -- are left is what it said of this line and those.
 use Prim.Native.Nat.{ℕ, ◌*◌, ◌<◌, ◌≤◌}
-use mathlib.Core.Path.{◌≡◌, refl, sym, subst, ◌∙◌}
-use mathlib.Core.Bool.{true, false}
+use mathlib.Core.Path.{◌≡◌, refl, sym, ap, subst, ◌∙◌}
+use mathlib.Core.Bool.{true}
 use mathlib.Core.List.{List, ◌∷◌}
 use mathlib.Core.Option.{Option, some}
 use native.Mathlib.Decide.{dec_lt, dec_le}
 use native.Mathlib.Omega.{arith}
 use lib.IntN.{ℤ, pos, negsuc}
 use lib.ListN.{length, set, length-set}
+use Rattle.std.specs.Option.{option_or}
+use Rattle.std.specs.Prelude.{Option as Told, Some, None, is_some}
 use Rattle.cells.specs.Limits.{table_count}
 use Rattle.text.specs.Input.{bad, too_many}
 use Rattle.intake.specs.Shapes.{shape_at}
 use Rattle.intake.specs.Change.{as_bad, as_too_many, with_number, with_table}
 use Rattle.intake.specs.Line.{Fed, fed, stored_of, counted_of}
 use Rattle.intake.specs.declared.state.Intake.{Intake}
+use Rattle.intake.specs.declared.state.Wrong.{Wrong}
+use Rattle.intake.specs.declared.state.Wrong.TheVariants.{Bad, TooMany}
 use Rattle.intake.proofs.Shapes.{shape-small}
 use Rattle.intake.proofs.Sound.{Sound, sound-bad, sound-many, sound-place, sound-number, sound-table}
-use Rattle.intake.proofs.Resume.{from_here, resume, resume-many, resume-bad, resume-here}
+use Rattle.intake.proofs.Resume.{from_here, resume, resume_wrong, resume-here}
 use Rattle.intake.proofs.Here.{here-number, here-within, here-past, here-negative, here-last}
 use Rattle.intake.proofs.Steps.{stored-in, counted-last, counted-within, counted-past}
 
@@ -30,17 +34,17 @@ pub record Follows (f : Fed) (x : Option ℤ) (g : Fed) : Type 0 where
   pub sound : SoundFed g
   pub says : (rest : List (Option ℤ)) → resume g rest ≡ resume f (x ∷ rest)
 
-module _ (i : Intake) (room : List ℤ) (s : Sound i (length room)) (m : i.too_many ≡ false) where
+module _ (i : Intake) (room : List ℤ) (s : Sound i (length room)) (m : i.wrong ≡ None) where
   -- a line that the definition refuses leaves the text bad
   pub refused : (x : Option ℤ) → ((rest : List (Option ℤ)) → resume (fed i room) (x ∷ rest) ≡ bad)
       → Follows (fed i room) x (fed (as_bad i) room)
   refused x e =
-      record { sound = sound-bad i (length room) s; says = λ rest. resume-bad (as_bad i) room rest m refl ∙ sym (e rest) }
+      record { sound = sound-bad i (length room) s; says = λ rest. resume_wrong (as_bad i) room rest Bad (ap (λ (w : Told Wrong). option_or w (Some Bad)) m) ∙ sym (e rest) }
 
-  module _ (b : i.bad ≡ false) (e : i.started ≡ true) where
+  module _ (e : is_some i.start ≡ true) where
     -- what the definition says of a line where the start mode was read
     here : (z : ℤ) (rest : List (Option ℤ)) → resume (fed i room) (some z ∷ rest) ≡ from_here i room (some z ∷ rest)
-    here z rest = resume-here i room (some z ∷ rest) m b e
+    here z rest = resume-here i room (some z ∷ rest) m e
 
     -- a number of the latest table is stored as the definition says
     pub stores : (z : ℤ) → 0 < i.left → Follows (fed i room) (some z) (stored_of (fed i room) z)
@@ -49,7 +53,7 @@ module _ (i : Intake) (room : List ℤ) (s : Sound i (length room)) (m : i.too_m
         subst (Follows (fed i room) (some z)) (sym (stored-in i room z (sound-place i (length room) s h)))
         (record {
           sound = subst (Sound (with_number i)) (sym (length-set room i.at z)) (sound-number i (length room) s h e);
-          says = λ rest. resume-here (with_number i) after rest m b e ∙ here-number i room rest s z h ∙ sym (here z rest);
+          says = λ rest. resume-here (with_number i) after rest m e ∙ here-number i room rest s z h ∙ sym (here z rest);
         })
 
     -- the cases of a row count
@@ -64,7 +68,7 @@ module _ (i : Intake) (room : List ℤ) (s : Sound i (length room)) (m : i.too_m
           subst Leads (sym c)
           (record {
             sound = sound-many i (length room) s;
-            says = λ rest. resume-many (as_too_many i) room rest refl ∙ sym (here z rest ∙ t rest);
+            says = λ rest. resume_wrong (as_too_many i) room rest TooMany refl ∙ sym (here z rest ∙ t rest);
           })
 
       -- a row count after the last table leaves the text bad
@@ -79,7 +83,7 @@ module _ (i : Intake) (room : List ℤ) (s : Sound i (length room)) (m : i.too_m
         subst (Leads (pos n)) (sym (counted-within i (pos n) next h))
         (record {
           sound = sound-table i (length room) s n next done e h;
-          says = λ rest. resume-here opened room rest m b e ∙ here-within i room rest s done next n h ∙ sym (here (pos n) rest);
+          says = λ rest. resume-here opened room rest m e ∙ here-within i room rest s done next n h ∙ sym (here (pos n) rest);
         })
 
     -- a row count of a table to come is taken as the definition says

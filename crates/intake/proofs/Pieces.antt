@@ -7,9 +7,10 @@ use native.Mathlib.Omega.{arith}
 use lib.IntN.{ℤ}
 use lib.ListN.{length, get_or, take, drop, length-drop}
 use lib.Seq.{take-append-le, drop-append-le, take_all, drop_at, get_or-set_same, get_or-set_other}
-use Rattle.intake.specs.Change.{with_table}
+use Rattle.intake.specs.Change.{nowhere, with_table}
 use Rattle.intake.specs.Heard.{piece}
 use Rattle.intake.specs.declared.state.Intake.{Intake}
+use Rattle.intake.specs.declared.state.Span.{Span}
 
 -- the first tables, by their number
 abbrev pub pieces : (ℕ → List ℤ) → ℕ → List (List ℤ)
@@ -24,13 +25,16 @@ pieces-same t u (suc n) e =
 
 -- where a table ends
 abbrev pub end_of : Intake → ℕ → ℕ
-end_of i k = get_or i.begins k 0 + get_or i.lens k 0
+end_of i k =
+    let span = get_or i.spans k nowhere in
+    span.from + span.len
 
 -- a table that ends within a room does not see what is put behind
 piece-within : (i : Intake) (l more : List ℤ) (k : ℕ) → end_of i k ≤ length l → piece i (l ++ more) k ≡ piece i l k
 piece-within i l more k h =
-    let from = get_or i.begins k 0 in
-    let n = get_or i.lens k 0 in
+    let span = get_or i.spans k nowhere in
+    let from = span.from in
+    let n = span.len in
     ap (take n) (drop-append-le from l more (omega arith))
     ∙ take-append-le n (drop from l) more (simp length-drop (omega arith))
 
@@ -43,19 +47,20 @@ pieces-within i l more other n h =
 
 -- the next table begins at the end of the room, and its numbers stand behind
 module _ (i : Intake) (l zs : List ℤ) (n : ℕ) (here : length l ≡ i.at) (many : length zs ≡ n)
-    (begins : i.table < length i.begins) (lens : i.table < length i.lens) where
+    (there : i.table < length i.spans) where
+  -- where the next table lies
+  abbrev place : Span
+  place = record { from = i.at; len = n }
+
   -- the tables before the next one stay as they are
   earlier : (k : ℕ) → k < i.table → piece (with_table i n) (l ++ zs) k ≡ piece i (l ++ zs) k
   earlier k h =
-      ap₂ (λ (m from : ℕ). take m (drop from (l ++ zs)))
-      (get_or-set_other i.lens i.table k n 0 (λ e. omega (arith, e)))
-      (get_or-set_other i.begins i.table k i.at 0 (λ e. omega (arith, e)))
+      ap (λ (p : Span). take p.len (drop p.from (l ++ zs))) (get_or-set_other i.spans i.table k place nowhere (λ e. omega (arith, e)))
 
   -- the next table has the numbers that stand behind
   latest : piece (with_table i n) (l ++ zs) i.table ≡ zs
   latest =
-      ap₂ (λ (m from : ℕ). take m (drop from (l ++ zs))) (get_or-set_same i.lens i.table n 0 lens)
-      (get_or-set_same i.begins i.table i.at 0 begins)
+      ap (λ (p : Span). take p.len (drop p.from (l ++ zs))) (get_or-set_same i.spans i.table place nowhere there)
       ∙ ap (take n) (drop_at l zs i.at here)
       ∙ take_all n zs (omega arith)
 

@@ -10,21 +10,22 @@ use native.Mathlib.Omega.{arith}
 use lib.IntN.{ℤ}
 use lib.ListN.{length, drop, length-set}
 use lib.Seq.{drop-cons, get_or-set_same, get_or-set_other}
+use Rattle.std.specs.Prelude.{is_some}
 use Rattle.theory.proofs.Bools.{clash}
 use Rattle.cells.specs.Limits.{table_count}
 use Rattle.text.specs.Input.{shapes}
 use Rattle.intake.specs.Shapes.{no_shape, shape_at, room_for}
-use Rattle.intake.specs.Change.{as_bad, as_too_many, with_start, with_number, with_table}
+use Rattle.intake.specs.Change.{nowhere, as_bad, as_too_many, with_start, with_number, with_table}
 use Rattle.intake.specs.declared.state.Intake.{Intake}
+use Rattle.intake.specs.declared.state.Span.{Span}
 use Rattle.intake.proofs.Pieces.{end_of}
 
 -- before the start mode no table was begun; every table that was begun ends where its last number will be; a room of n numbers has
 -- places for those and for all tables to come
 pub record Sound (i : Intake) (n : ℕ) : Type 0 where
-  pub fresh : i.started ≡ false → (i.table ≡ 0) × (i.left ≡ 0)
+  pub fresh : is_some i.start ≡ false → (i.table ≡ 0) × (i.left ≡ 0)
   pub few : i.table ≤ table_count
-  pub begins-all : length i.begins ≡ table_count
-  pub lens-all : length i.lens ≡ table_count
+  pub spans-all : length i.spans ≡ table_count
   pub apart : (k : ℕ) → k < i.table → end_of i k ≤ i.at + i.left
   pub enough : i.at + i.left + room_for (drop i.table shapes) ≤ n
 
@@ -37,12 +38,12 @@ module _ (i : Intake) (n : ℕ) (s : Sound i n) where
   -- the intake of a bad text is sound
   pub sound-bad : Sound (as_bad i) n
   sound-bad =
-      record { fresh = s.fresh; few = s.few; begins-all = s.begins-all; lens-all = s.lens-all; apart = s.apart; enough = s.enough }
+      record { fresh = s.fresh; few = s.few; spans-all = s.spans-all; apart = s.apart; enough = s.enough }
 
   -- the intake of a text with a count out of its limit is sound
   pub sound-many : Sound (as_too_many i) n
   sound-many =
-      record { fresh = s.fresh; few = s.few; begins-all = s.begins-all; lens-all = s.lens-all; apart = s.apart; enough = s.enough }
+      record { fresh = s.fresh; few = s.few; spans-all = s.spans-all; apart = s.apart; enough = s.enough }
 
   -- the intake after the start mode is sound
   pub sound-start : (z : ℤ) → Sound (with_start i z) n
@@ -50,8 +51,7 @@ module _ (i : Intake) (n : ℕ) (s : Sound i n) where
       record {
         fresh = λ e. clash {b = true} refl e;
         few = s.few;
-        begins-all = s.begins-all;
-        lens-all = s.lens-all;
+        spans-all = s.spans-all;
         apart = s.apart;
         enough = s.enough;
       }
@@ -61,19 +61,18 @@ module _ (i : Intake) (n : ℕ) (s : Sound i n) where
   sound-place h = omega (arith, s.enough)
 
   -- the intake after a number of the latest table is sound
-  pub sound-number : 0 < i.left → i.started ≡ true → Sound (with_number i) n
+  pub sound-number : 0 < i.left → is_some i.start ≡ true → Sound (with_number i) n
   sound-number h e =
       record {
         fresh = λ f. clash e f;
         few = s.few;
-        begins-all = s.begins-all;
-        lens-all = s.lens-all;
+        spans-all = s.spans-all;
         apart = λ k b. omega (arith, s.apart k b);
         enough = omega (arith, s.enough);
       }
 
   -- the next table has a row count within the limit
-  module _ (rows : ℕ) (next : i.table < table_count) (none_left : i.left ≤ 0) (e : i.started ≡ true)
+  module _ (rows : ℕ) (next : i.table < table_count) (none_left : i.left ≤ 0) (e : is_some i.start ≡ true)
       (h : rows ≤ (shape_at i.table).limit) where
     -- how many numbers the next table has
     abbrev numbers : ℕ
@@ -85,14 +84,12 @@ module _ (i : Intake) (n : ℕ) (s : Sound i n) where
       where
         go : Dec (k < i.table) → end_of (with_table i numbers) k ≤ i.at + numbers
         go (yes l) =
-            let at = get_or-set_other i.begins i.table k i.at 0 (λ q. omega (arith, q)) in
-            let many = get_or-set_other i.lens i.table k numbers 0 (λ q. omega (arith, q)) in
-            omega (arith, s.apart k l, at, many)
+            let e = get_or-set_other i.spans i.table k (record { from = i.at; len = numbers }) nowhere (λ q. omega (arith, q)) in
+            omega (arith, s.apart k l, ap (λ (p : Span). p.from + p.len) e)
         go (no l) =
             let q : k ≡ i.table = omega arith in
-            let at = get_or-set_same i.begins i.table i.at 0 (omega (arith, s.begins-all)) in
-            let many = get_or-set_same i.lens i.table numbers 0 (omega (arith, s.lens-all)) in
-            rw q (omega (arith, at, many))
+            let e = get_or-set_same i.spans i.table (record { from = i.at; len = numbers }) nowhere (omega (arith, s.spans-all)) in
+            rw q (omega (arith, ap (λ (p : Span). p.from + p.len) e))
 
     -- the intake after a row count within the limit is sound: there is room for the tables to come
     pub sound-table : Sound (with_table i numbers) n
@@ -100,8 +97,7 @@ module _ (i : Intake) (n : ℕ) (s : Sound i n) where
         record {
           fresh = λ f. clash e f;
           few = omega arith;
-          begins-all = length-set i.begins i.table i.at ∙ s.begins-all;
-          lens-all = length-set i.lens i.table numbers ∙ s.lens-all;
+          spans-all = length-set i.spans i.table (record { from = i.at; len = numbers }) ∙ s.spans-all;
           apart = apart_more;
           enough = omega (arith, s.enough, ap room_for (next-shape i.table next), mul-le-mul_right (shape_at i.table).width h);
         }

@@ -6,9 +6,9 @@ use mathlib.Core.List.{List}
 use lib.IntN.{ℤ}
 use lib.ListN.{length, set}
 use borrow.Author.Tests.{lt-ltb, le-ltb, le-leb, lt-leb}
+use Rattle.std.specs.Prelude.{Option, Some, None, is_some}
 use Rattle.cells.specs.Cell.{index_of}
 use Rattle.cells.specs.Limits.{table_count}
-use Rattle.text.specs.declared.number.Signed.{Signed}
 use Rattle.intake.specs.Shapes.{shape_at}
 use Rattle.intake.specs.Change.{as_bad, as_too_many, with_start, with_number, with_table}
 use Rattle.intake.specs.Line.{fed, is_decided, stored_of, counted_of, took_of}
@@ -40,31 +40,29 @@ module _ (i : Intake) (z : ℤ) where
   counted-past h l = simp (lt-leb table_count i.table h, lt-leb (index_of z) (shape_at i.table).limit l) refl
 
 -- a whole line
-module _ (i : Intake) (room : List ℤ) (number : Signed) where
+module _ (i : Intake) (room : List ℤ) where
   -- what is decided stays
-  pub took-decided : is_decided i ≡ true → took_of (fed i room) number ≡ fed i room
+  pub took-decided : (number : Option ℤ) → is_decided i ≡ true → took_of (fed i room) number ≡ fed i room
   unfolding took_of
-  took-decided d = simp d refl
+  took-decided number d = simp d refl
 
-  -- a line that is no number leaves the text bad
-  pub took-none : is_decided i ≡ false → number.ok ≡ false → took_of (fed i room) number ≡ fed (as_bad i) room
-  unfolding took_of
-  took-none d o = simp (d, o) refl
+  module _ (d : is_decided i ≡ false) where
+    -- a line that is no number leaves the text bad
+    pub took-none : took_of (fed i room) None ≡ fed (as_bad i) room
+    unfolding took_of
+    took-none = simp d refl
 
-  -- the first line is the start mode
-  pub took-start : is_decided i ≡ false → number.ok ≡ true → i.started ≡ false
-      → took_of (fed i room) number ≡ fed (with_start i number.value) room
-  unfolding took_of
-  took-start d o s = simp (d, o, s) refl
+    -- the first line is the start mode
+    pub took-start : (z : ℤ) → is_some i.start ≡ false → took_of (fed i room) (Some z) ≡ fed (with_start i z) room
+    unfolding took_of
+    took-start z s = simp (d, s) refl
 
-  -- a line is a number of the latest table, as long as some are to come
-  pub took_number : is_decided i ≡ false → number.ok ≡ true → i.started ≡ true → 0 < i.left
-      → took_of (fed i room) number ≡ stored_of (fed i room) number.value
-  unfolding took_of
-  took_number d o s l = simp (d, o, s, lt-ltb 0 i.left l) refl
+    -- a line is a number of the latest table, as long as some are to come
+    pub took_number : (z : ℤ) → is_some i.start ≡ true → 0 < i.left → took_of (fed i room) (Some z) ≡ stored_of (fed i room) z
+    unfolding took_of
+    took_number z s l = simp (d, s, lt-ltb 0 i.left l) refl
 
-  -- a line behind the last number of the latest table is the row count of the next one
-  pub took-count : is_decided i ≡ false → number.ok ≡ true → i.started ≡ true → i.left ≤ 0
-      → took_of (fed i room) number ≡ fed (counted_of i number.value) room
-  unfolding took_of
-  took-count d o s l = simp (d, o, s, le-ltb 0 i.left l) refl
+    -- a line behind the last number of the latest table is the row count of the next one
+    pub took-count : (z : ℤ) → is_some i.start ≡ true → i.left ≤ 0 → took_of (fed i room) (Some z) ≡ fed (counted_of i z) room
+    unfolding took_of
+    took-count z s l = simp (d, s, le-ltb 0 i.left l) refl

@@ -8,13 +8,13 @@ use mathlib.Core.Option.{Option}
 use lib.Dec.{eqb}
 use lib.IntN.{ℤ}
 use borrow.Author.Tests.{eqb-true}
+use Rattle.std.specs.Prelude.{Option as Told}
 use Rattle.theory.proofs.Conditions.{cond_yes, cond_no}
 use Rattle.theory.proofs.Lists.{every_append}
 use Rattle.text.specs.Decimal.{newline, number}
 use Rattle.text.specs.Input.{lines, numbers_of}
 use Rattle.text.specs.Part.{start_part, is_start, part_after, part_of, signed_as, signed_of}
 use Rattle.text.specs.declared.number.Part.{Part}
-use Rattle.text.specs.declared.number.Signed.{Signed}
 use Rattle.text.proofs.Cut.{part_cut}
 use Rattle.text.proofs.SignedNumber.{signed-number}
 use Rattle.intake.specs.Line.{Fed, took_of}
@@ -30,7 +30,7 @@ use Rattle.intake.proofs.Cutting.{NoEnd, lines-ended, lines-last}
 -- what was read of a line does not matter for the room
 sound-part : (f : Fed) (p : Part) → SoundFed f → SoundFed (at_part f p)
 sound-part f p s =
-    record { fresh = s.fresh; few = s.few; begins-all = s.begins-all; lens-all = s.lens-all; apart = s.apart; enough = s.enough }
+    record { fresh = s.fresh; few = s.few; spans-all = s.spans-all; apart = s.apart; enough = s.enough }
 
 -- what was read of a line does not matter for what the definition says of the lines that are left
 resume-part : (f : Fed) (p : Part) (rest : List (Option ℤ)) → resume (at_part f p) rest ≡ resume f rest
@@ -42,7 +42,7 @@ line-follows : (f : Fed) (l : List ℕ) → SoundFed f → f.intake.part ≡ par
 unfolding line_end
 line-follows f l s e =
     let step = took-follows f.intake f.room s (number l) in
-    subst (λ (z : Signed). Follows f (number l) (at_part (took_of f z) start_part)) (sym (ap signed_of e ∙ signed-number l))
+    subst (λ (z : Told ℤ). Follows f (number l) (at_part (took_of f z) start_part)) (sym (ap signed_of e ∙ signed-number l))
     (record {
       sound = sound-part (took_of f (signed_as (number l))) start_part step.sound;
       says = λ rest. resume-part (took_of f (signed_as (number l))) start_part rest ∙ step.says rest;

@@ -1,8 +1,7 @@
 -- The intake after one line more: the start mode, a row count, or a number of a table, which goes into the room.
-use Rattle.std.specs.Prelude.{◌*◌, Bool, not, cond, ◌&&◌, ◌||◌, List, eqb, ltb, leb, ℤ, length, set}
+use Rattle.std.specs.Prelude.{◌*◌, Bool, cond, ◌&&◌, List, eqb, ltb, leb, ℤ, length, set, Option, Some, None, is_some, is_none}
 use Rattle.cells.specs.Cell.{index_of}
 use Rattle.cells.specs.Limits.{table_count}
-use Rattle.text.specs.declared.number.Signed.{Signed}
 use Rattle.intake.specs.Shapes.{shape_at}
 use Rattle.intake.specs.Change.{as_bad, as_too_many, with_start, with_number, with_table}
 use Rattle.intake.specs.declared.state.Intake.{Intake}
@@ -18,11 +17,11 @@ fed i room = record { intake = i; room = room }
 
 -- the text is decided: more bytes change nothing
 unfoldable pub is_decided : Intake → Bool
-is_decided i = i.bad || i.too_many
+is_decided i = is_some i.wrong
 
 -- the text is complete: the last row was read, and nothing after it
 unfoldable pub is_complete : Intake → Bool
-is_complete i = not i.bad && not i.too_many && i.started && eqb i.table table_count && eqb i.left 0
+is_complete i = is_none i.wrong && is_some i.start && eqb i.table table_count && eqb i.left 0
 
 -- after a number of the latest table: it stands at the next free place; without one the text is refused
 unfoldable pub stored_of : Fed → ℤ → Fed
@@ -38,12 +37,14 @@ counted_of i z =
     cond (leb table_count i.table) (as_bad i)
     (cond (leb rows shape.limit) (with_table i (rows * shape.width)) (as_too_many i))
 
--- after a whole line: what is decided stays
-unfoldable pub took_of : Fed → Signed → Fed
-took_of f number =
+-- after a whole line of a text that is not decided: the start mode, a number of the latest table, or the next row count
+abbrev pub number_read : Fed → Option ℤ → Fed
+number_read f None = fed (as_bad f.intake) f.room
+number_read f (Some z) =
     let i = f.intake in
-    let z = number.value in
-    cond (is_decided i) f
-    (cond (not number.ok) (fed (as_bad i) f.room)
-    (cond (not i.started) (fed (with_start i z) f.room)
-    (cond (ltb 0 i.left) (stored_of f z) (fed (counted_of i z) f.room))))
+    cond (is_none i.start) (fed (with_start i z) f.room)
+    (cond (ltb 0 i.left) (stored_of f z) (fed (counted_of i z) f.room))
+
+-- after a whole line: what is decided stays
+unfoldable pub took_of : Fed → Option ℤ → Fed
+took_of f number = cond (is_decided f.intake) f (number_read f number)

@@ -6,33 +6,29 @@ ghost use Rattle.intake.specs.Bytes.{line_end, fed_of, fed_all, ended_of};
 use crate::state::Intake;
 use text::number::Part;
 
-// The byte that ends a line.
-const NEWLINE: u8 = b'\n';
-
 // What is known of the text after the end of a line: its number is taken, and a new line begins.
+#[tactic(auto, unfolding(crate::specs::Bytes::line_end))]
 fn line_end(i: Intake, room: &mut [i32]) -> Intake
     ensures { fed result room.new ≡ line_end (fed i room.old) }
 {
-    let part = i.part;
-    let mut next = i.took(part.signed(), room);
-    let fresh = Part::new();
-    next.part = fresh;
-    next
+    let taken = i.took(i.part.signed(), room);
+    Intake {
+        part: Part::Start,
+        ..taken
+    }
 }
 
 impl Intake {
     // What is known of the text after one byte more: a line end, or a byte of the line.
+    #[tactic(auto, unfolding(crate::specs::Bytes::fed_of))]
     pub fn feed(self, b: u8, room: &mut [i32]) -> Intake
         ensures { fed result room.new ≡ fed_of (fed self room.old) b }
     {
-        if b == NEWLINE {
+        if b == b'\n' {
             return line_end(self, room);
         }
-        let part = self.part;
-        let longer = part.feed(b);
-        let mut next = self;
-        next.part = longer;
-        next
+        let part = self.part.feed(b);
+        Intake { part, ..self }
     }
 
     // What is known of the text after all of these bytes.
@@ -40,23 +36,20 @@ impl Intake {
         ensures { fed result room.new ≡ fed_all (fed self room.old) bytes.now }
     {
         let mut next = self;
-        let mut k = 0;
-        while k < bytes.len() {
-            let b = bytes[k];
-            next = next.feed(b, room);
-            k += 1;
+        for b in bytes {
+            next = next.feed(*b, room);
         }
         next
     }
 
     // What is known of the text after the end of the input: the last line end may be missing.
+    #[tactic(auto, unfolding(crate::specs::Bytes::ended_of))]
     pub fn ended(self, room: &mut [i32]) -> Intake
         ensures { fed result room.new ≡ ended_of (fed self room.old) }
     {
-        let part = self.part;
-        if !part.minus & !part.some & !part.bad {
-            return self;
+        match self.part {
+            Part::Start => self,
+            Part::Minus | Part::Digits { .. } | Part::Bad => line_end(self, room),
         }
-        line_end(self, room)
     }
 }

@@ -7,7 +7,7 @@ use cells::columns::{
     copy, driver, invocation, mode, mode_port, port, switch, task, task_port, update,
 };
 use cells::limits::Program;
-use cells::tables;
+use cells::{table, tables};
 
 // How many numbers all ten tables have, each with its most rows: a room of so many never is too short.
 pub const ROOM: usize = Program::PORTS * port::WIDTH
@@ -22,23 +22,17 @@ pub const ROOM: usize = Program::PORTS * port::WIDTH
     + Program::SWITCHES * switch::WIDTH;
 
 // How many numbers a row of a table has; past the last table 0.
-pub fn width(table: usize) -> usize
-    ensures { result ≡ (shape_at table).width }
+pub fn width(place: usize) -> usize
+    ensures { result ≡ (shape_at place).width }
 {
-    if table < Program::TABLES {
-        return tables::WIDTHS[table];
-    }
-    0
+    table::at(&tables::WIDTHS, place, 0)
 }
 
 // The most rows of a table; past the last table 0.
-pub fn limit(table: usize) -> usize
-    ensures { result ≡ (shape_at table).limit }
+pub fn limit(place: usize) -> usize
+    ensures { result ≡ (shape_at place).limit }
 {
-    if table < Program::TABLES {
-        return tables::LIMITS[table];
-    }
-    0
+    table::at(&tables::LIMITS, place, 0)
 }
 
 // A room for the largest program, all 0.

@@ -10,7 +10,7 @@ use mathlib.Core.Logic.{◌↔◌}
 use mathlib.Core.Option.{Option, none, some}
 use native.Mathlib.Nat.{add-zero, zero-add}
 use native.Mathlib.Omega.{arith}
-use lib.ListN.{length, get_or, set, replicate, length-set, length-replicate, get_or-map}
+use lib.ListN.{length, get_or, replicate, length-set, length-replicate, get_or-map}
 use lib.Seq.{get_or-set_same, get_or-set_other}
 use Rattle.theory.specs.Verdict.{accepted_number}
 use Rattle.theory.proofs.Filled.{filled_at, filled-beyond, zeros-at}

@@ -1,8 +1,9 @@
 -- Where the modes of a program begin and are entered, by rule: a mode begins at the sum of the sizes before it. A loop that puts this
 -- into two lists comes to where the listing has the modes; no number exceeds the longest code.
 -- Assumes of the tables that they have no more rows than the limits (`Few`), no more sensors and no more modes.
-use Prim.Native.Nat.{ℕ, zero, suc, ◌+◌, ◌*◌, ◌≤◌, ◌<◌}
+use Prim.Native.Nat.{ℕ, ◌+◌, ◌*◌, ◌≤◌, ◌<◌}
 use mathlib.Core.Path.{◌≡◌, refl, sym, ap, subst, ◌∙◌}
+use mathlib.Core.Bool.{false}
 use mathlib.Core.List.{List}
 use native.Mathlib.Numerals.{add-one}
 use native.Mathlib.Omega.{arith}
@@ -17,13 +18,14 @@ use Rattle.program.specs.Units.{units}
 use Rattle.program.specs.Program.{Program, Mode, program_of, mode}
 use Rattle.program.proofs.Units.{units-within}
 use Rattle.program.proofs.Decoded.{mode-count, mode-row}
+use Rattle.rules.specs.Shape.{shape_bad}
 use Rattle.code.specs.Listing.{block_size, mode_size, mode_address}
 use Rattle.code.specs.Compile.{listing_of}
 use Rattle.code.proofs.Length.{listing-length}
 use Rattle.layout.specs.Counts.{counts_in, counts_of, before_entry, size_of, most_mode, most_code}
 use Rattle.layout.specs.Few.{Few}
 use Rattle.layout.specs.Layout.{unit_counts, size_in, start_in, entry_in, LaidOut, Small}
-use Rattle.layout.proofs.Limits.{counts-sized, mode-most}
+use Rattle.layout.proofs.Limits.{counts-sized, mode-most, few-rows, few-modes}
 use Rattle.layout.proofs.Sizes.{counts-due}
 
 module _ (T : Tables) {invocations updates switches : List ℤ} {u : ℕ} (m sensors : ℕ) (e : T.invocations ≡ invocations)
@@ -46,9 +48,10 @@ module _ (T : Tables) (sensors : ℕ) where
           sum-most (size_in T sensors) most_mode m (λ i l. mode-most _ _ _ _ i (units T i) few s (units T i) (units-within T i)),
         )
 
-    -- a mode that begins where the modes before it end is within the longest code
-    pub start-near : (m : ℕ) {at : ℕ} → m < max_modes → at ≡ start_in T sensors m → at + most_mode ≤ most_code
-    start-near m h q = omega (arith, start-most m)
+  -- a declared mode that begins where the modes before it end is within the longest code, where number 1 passes the tables
+  pub mode-near : shape_bad T ≡ false → sensors ≤ max_ports → (m : ℕ) {at : ℕ} → m < mode_count T → at ≡ start_in T sensors m
+      → at + most_mode ≤ most_code
+  mode-near e s m h q = omega (arith, h, q, few-modes T e, start-most (few-rows T e) s m)
 
   -- the program that the tables say
   abbrev P : Program
@@ -84,23 +87,18 @@ module _ (T : Tables) (sensors : ℕ) where
     laying-none = record { in-range = omega arith; here = refl; begins = refl; enters = refl }
 
     module _ {m at : ℕ} {starts entries : List ℕ} (w : Laying m at starts entries) where
-      -- one mode more is put into the lists
-      pub laying-more : {end : ℕ} {starts' entries' : List ℕ} → m < mode_count T → starts' ≡ set starts m at
-          → entries' ≡ set entries m (at + before_entry (unit_counts T sensors m 0)) → end ≡ at + size_in T sensors m → Laying (m + 1) end starts' entries'
-      laying-more l p q r = record {
+      -- one mode more is put into the lists, by its number
+      pub laying-more : {i end : ℕ} {starts' entries' : List ℕ} → m < mode_count T → i ≡ m → starts' ≡ set starts i at
+          → entries' ≡ set entries i (at + before_entry (unit_counts T sensors i 0)) → end ≡ at + size_in T sensors i → Laying (m + 1) end starts' entries'
+      laying-more l e p q r = record {
         in-range = omega arith;
-        here = rw (add-one m) (omega (arith, w.here, r));
-        begins = p ∙ filled_more (start_in T sensors) starts₀ m starts at w.begins w.here;
+        here = rw (add-one m) (omega (arith, w.here, r, ap (size_in T sensors) e));
+        begins = p ∙ ap (λ (n : ℕ). set starts n at) e ∙ filled_more (start_in T sensors) starts₀ m starts at w.begins w.here;
         enters =
-            q ∙ filled_more (entry_in T sensors) entries₀ m entries _ w.enters (ap (λ (n : ℕ). n + before_entry (unit_counts T sensors m 0)) w.here);
+            q
+            ∙ ap (λ (n : ℕ). set entries n (at + before_entry (unit_counts T sensors n 0))) e
+            ∙ filled_more (entry_in T sensors) entries₀ m entries _ w.enters (ap (λ (n : ℕ). n + before_entry (unit_counts T sensors m 0)) w.here);
       }
-
-      -- the lists keep their lengths
-      pub lists_length : (length starts ≡ length starts₀) × (length entries ≡ length entries₀)
-      lists_length = (
-        ap length w.begins ∙ filled-length (start_in T sensors) starts₀ m,
-        ap length w.enters ∙ filled-length (entry_in T sensors) entries₀ m,
-      )
 
       -- behind the last mode all were put into the lists
       pub laying-all : mode_count T ≤ m → Laying (mode_count T) at starts entries

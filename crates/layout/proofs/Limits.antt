@@ -1,7 +1,7 @@
 -- Sizes within document 01's limits: of a block, of a mode, of the units; and tables that number 1 passes are within them.
 -- Assumes of the tables that they have no more rows than the limits (`Few`), and no more sensors.
-use Prim.Native.Nat.{ℕ, suc, ◌≤◌}
-use mathlib.Core.Path.{◌≡◌, refl}
+use Prim.Native.Nat.{ℕ, suc, ◌≤◌, ◌<◌}
+use mathlib.Core.Path.{◌≡◌, refl, sym, subst, ◌∙◌}
 use mathlib.Core.Bool.{false}
 use mathlib.Core.List.{List, []}
 use native.Mathlib.Nat.{le_trans}
@@ -10,8 +10,11 @@ use lib.IntN.{ℤ, pos}
 use lib.ListN.{length}
 use Rattle.theory.specs.Lists.{sum}
 use Rattle.theory.proofs.Lists.{sum-most, those-few}
+use Rattle.cells.specs.Cell.{name_of}
 use Rattle.cells.specs.Limits.{max_ports, max_modes, max_units}
-use Rattle.program.specs.Tables.{Tables, tables, port_count, mode_count}
+use Rattle.cells.proofs.Names.{name-small}
+use Rattle.cells.specs.declared.tables.ProgramTables.{ProgramTables}
+use Rattle.program.specs.Tables.{Tables, port_count, mode_count, tables_in}
 use Rattle.program.specs.Sets.{sensor_rows}
 use Rattle.program.specs.Units.{units}
 use Rattle.program.proofs.Units.{units-some, units-within}
@@ -43,6 +46,10 @@ module _ (invocations updates switches : List ℤ) (sensors m u : ℕ) (few : Fe
     sensors = s;
   }
 
+  -- what was counted there is within the limits
+  pub told-sized : (k : ℕ) {c : Counts} → c ≡ counts_in invocations updates switches sensors m u k → Sized c
+  told-sized k q = subst Sized (sym q) (counts-sized k)
+
   -- the block of a unit is no longer than the longest block
   pub unit-most : (k : ℕ) → size_of (counts_in invocations updates switches sensors m u k) ≤ most_block
   unit-most k = block-most _ (counts-sized k)
@@ -51,12 +58,11 @@ module _ (invocations updates switches : List ℤ) (sensors m u : ℕ) (few : Fe
   pub mode-most : (n : ℕ) → n ≤ suc max_units → sum (λ k. size_of (counts_in invocations updates switches sensors m u k)) n ≤ most_mode
   mode-most n l = omega (arith, sum-most _ most_block n (λ k l. unit-most k))
 
--- a number that is the units of a mode for every program with these tables is at least 1, and at most one more than the limit
-pub units-told : (m : ℕ) {r : ℕ} {invocations updates switches : List ℤ}
-    → ((T : Tables) → T.invocations ≡ invocations → T.updates ≡ updates → T.switches ≡ switches → r ≡ units T m) → (1 ≤ r) × (r ≤ suc max_units)
-units-told m {r} {invocations} {updates} {switches} told =
-    let T = tables [] [] [] [] [] [] [] invocations updates switches (pos 0) in
-    let e = told T refl refl refl in (omega (arith, units-some T m), omega (arith, units-within T m))
+-- a number that is the units of a mode, whatever the start mode, is at least 1, and at most one more than the limit
+pub units-told : (lent : ProgramTables) (m : ℕ) {r : ℕ} → ((start : ℤ) → r ≡ units (tables_in lent start) m) → (1 ≤ r) × (r ≤ suc max_units)
+units-told lent m told =
+    let T = tables_in lent (pos 0) in
+    let e = told (pos 0) in (omega (arith, units-some T m), omega (arith, units-within T m))
 
 module _ (T : Tables) (e : shape_bad T ≡ false) where
   -- tables that number 1 passes have few invocations, updates and switches
@@ -76,6 +82,10 @@ module _ (T : Tables) (e : shape_bad T ≡ false) where
   -- tables that number 1 passes declare no more modes than the limit
   pub few-modes : mode_count T ≤ max_modes
   few-modes = whole-few _ _ T.modes ((shape-bars T).ok e).modes
+
+  -- what has the name of a declared mode's number has that number
+  pub mode-named : {m n : ℕ} → m < mode_count T → n ≡ name_of m → n ≡ m
+  mode-named {m} h q = q ∙ name-small m (omega (arith, few-modes))
 
   -- tables that number 1 passes declare no more sensors than the limit
   pub few-sensors : length (sensor_rows T.ports (λ p. p)) ≤ max_ports

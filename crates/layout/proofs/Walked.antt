@@ -3,10 +3,9 @@
 use Prim.Native.Nat.{ℕ, zero, suc, ◌+◌, ◌≤◌, ◌<◌}
 use mathlib.Core.Path.{◌≡◌, refl, sym, ap, ◌∙◌}
 use mathlib.Core.List.{List, map}
-use native.Mathlib.Nat.{add-zero, add_assoc}
+use native.Mathlib.Nat.{add_assoc}
 use native.Mathlib.Numerals.{add-one}
 use native.Mathlib.Omega.{arith}
-use lib.ListN.{length}
 use Rattle.theory.specs.Lists.{sum}
 use Rattle.theory.proofs.Lists.{sum_same}
 use Rattle.layout.specs.Delays.{walked}
@@ -17,10 +16,6 @@ module _ (size : ℕ → ℕ) (step : ℕ → ℕ → List ℕ → List ℕ) (a 
     pub in-range : k ≤ n
     pub ends : next ≡ a + sum size k
     pub done : now ≡ walked size step a k table
-
-  -- before the first piece the loop has done nothing
-  pub walked_none : (n : ℕ) (table : List ℕ) → Walking n table 0 a table
-  walked_none n table = record { in-range = omega arith; ends = sym (add-zero a); done = refl }
 
   -- the loop takes one piece more: where it ends, and the table afterwards
   pub walked_more : (n : ℕ) (table : List ℕ) (k next end : ℕ) (now after : List ℕ)
@@ -39,17 +34,7 @@ module _ (size : ℕ → ℕ) (step : ℕ → ℕ → List ℕ → List ℕ) (a 
       let e : k ≡ n = omega (arith, w.in-range) in
       (w.done ∙ ap (λ (i : ℕ). walked size step a i table) e, w.ends ∙ ap (λ (i : ℕ). a + sum size i) e)
 
-  -- a walk whose steps keep the table's length keeps it
-  pub walked_keeps : ((k at : ℕ) (t : List ℕ) → length (step k at t) ≡ length t) → (n : ℕ) (table : List ℕ)
-      → length (walked size step a n table) ≡ length table
-  walked_keeps h zero table = refl
-  walked_keeps h (suc n) table = h n (a + sum size n) (walked size step a n table) ∙ walked_keeps h n table
-
   module _ {n : ℕ} {table : List ℕ} {k next : ℕ} {now : List ℕ} (w : Walking n table k next now) where
-    -- what a loop has done of a walk whose steps keep the table's length keeps it
-    pub walked-length : ((k at : ℕ) (t : List ℕ) → length (step k at t) ≡ length t) → length now ≡ length table
-    walked-length h = ap length w.done ∙ walked_keeps h k table
-
     -- where the pieces passed are no longer than c, the next one stands no further than c behind the first
     pub walked_near : (b c : ℕ) → sum size k ≤ c → a + c ≤ b → next ≤ b
     walked_near b c l h = omega (arith, w.ends)

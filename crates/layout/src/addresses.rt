@@ -9,14 +9,16 @@ ghost use Rattle.layout.specs.Counts.{before_entry, most_code};
 ghost use Rattle.layout.specs.Layout.{unit_counts, size_in, start_in, entry_in, LaidOut, Small};
 
 use crate::counts;
-use cells::kinds::Mode;
-use cells::limits::Program;
-use cells::{modes, tables};
+use crate::counts::Instant;
+use cells::columns::mode;
+use cells::kinds::{Kind, Mode};
+use cells::modes;
+use cells::tables::ProgramTables;
 use program::multiples;
 
 // Where mode m begins and where its unit 0 is entered is put into the lists; it begins at this address. Where it ends is returned.
 fn one_more(
-    tables: &[&[i32]; Program::TABLES],
+    tables: &ProgramTables,
     sensors: usize,
     m: Mode,
     at: usize,
@@ -31,22 +33,24 @@ fn one_more(
         entries.new ≡ set entries.old m.0 (at + before_entry (unit_counts T sensors m.0 0)) }
     ensures end { (start : ℤ) → result ≡ at + size_in (tables_in tables.now start) sensors m.0 }
 {
-    let invocations = tables[tables::INVOCATIONS];
-    let updates = tables[tables::UPDATES];
-    let switches = tables[tables::SWITCHES];
-    let u = multiples::units(invocations, updates, switches, m);
-    let first = counts::count(invocations, updates, switches, sensors, m, u, 0);
+    let u = multiples::units(tables, m);
+    let begin = Instant {
+        mode: m,
+        units: u,
+        unit: 0,
+    };
+    let first = counts::count(tables, sensors, begin);
     let entry = at + counts::before_entry(first);
-    let end = at + counts::mode_size(invocations, updates, switches, sensors, m, u);
+    let end = at + counts::mode_size(tables, sensors, m, u);
     modes::put_number(starts, m, at);
     modes::put_number(entries, m, entry);
     end
 }
 
 // Where each mode begins and is entered is put into the lists, as far as they have room: one mode after the other, behind the jump
-// at address 0. The length of the listing is returned.
+// at address 0. The length of the listing is returned. (Two lists: a jump asks where a mode begins, a stub where it is entered.)
 pub fn lay_out(
-    tables: &[&[i32]; Program::TABLES],
+    tables: &ProgramTables,
     sensors: usize,
     starts: &mut [usize],
     entries: &mut [usize],
@@ -63,12 +67,9 @@ pub fn lay_out(
     ensures small { (Small starts.old → Small starts.new)
         × (Small entries.old → Small entries.new) × (result ≤ most_code) }
 {
-    let modes = tables[tables::MODES];
     let mut at = 1;
-    let mut m = Mode::of(0);
-    while modes::declared(modes, m) {
-        at = one_more(tables, sensors, m, at, starts, entries);
-        m = m.next();
+    for k in 0..tables.modes.len() / mode::WIDTH {
+        at = one_more(tables, sensors, Mode::of(k), at, starts, entries);
     }
     at
 }

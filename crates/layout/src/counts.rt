@@ -1,17 +1,28 @@
 // How many instructions of each kind a block has; how long its parts are, the block and the mode. No sum wraps.
-ghost use Rattle.std.specs.Prelude.{◌≡◌, suc, ◌≤◌, length};
+ghost use Rattle.std.specs.Prelude.{◌≡◌, suc, ◌≤◌, ℤ, length};
 ghost use Rattle.theory.specs.Lists.{sum};
 ghost use Rattle.cells.specs.Cell.{rows_in};
 ghost use Rattle.cells.specs.Limits.{max_ports, max_units};
-ghost use Rattle.program.specs.Tables.{port_width};
+ghost use Rattle.program.specs.Tables.{table_at, tables_in, port_width, invocations_at, updates_at, switches_at};
 ghost use Rattle.program.specs.Sets.{sensor_rows};
 ghost use Rattle.layout.specs.Few.{Few, Sized};
 ghost use Rattle.layout.specs.Counts.{counts_in, before_tests, before_entry, before_future, size_of};
 
+use cells::codes::PortKind;
 use cells::columns::{invocation, port, switch, update};
-use cells::kinds::{Mode, Port};
+use cells::kinds::{Kind, Mode, Port};
 use cells::ports;
+use cells::tables::ProgramTables;
 use program::due;
+use theory::scan;
+
+// A unit of a mode: the mode, how many units it has, and which of them.
+#[derive(Clone, Copy)]
+pub struct Instant {
+    pub mode: Mode,
+    pub units: usize,
+    pub unit: usize,
+}
 
 // How many rows of each table are due at a unit, and how many sensors there are.
 #[derive(Clone, Copy)]
@@ -27,37 +38,25 @@ pub fn sensors(ports: &[i32]) -> usize
     requires { rows_in port_width ports.now ≤ max_ports }
     ensures { result ≡ length (sensor_rows ports.now (λ p. p)) }
 {
-    let mut count = 0;
-    let mut p = Port::of(0);
-    while ports::declared(ports, p) {
-        if ports::kind(ports, p) == port::SENSOR {
-            count += 1;
-        }
-        p = p.next();
-    }
-    count
+    scan::count(
+        ports.len() / port::WIDTH,
+        |k| ports::is(ports, Port::of(k), PortKind::Sensor),
+    )
 }
 
-// How many rows are due at unit k of mode m, which has u units.
-pub fn count(
-    invocations: &[i32],
-    updates: &[i32],
-    switches: &[i32],
-    sensors: usize,
-    m: Mode,
-    u: usize,
-    k: usize,
-) -> Counts
-    ensures { result ≡ counts_in invocations.now updates.now switches.now sensors m.0 u k }
+// How many rows are due at a unit.
+pub fn count(tables: &ProgramTables, sensors: usize, when: Instant) -> Counts
+    ensures { let t = table_at tables.now in
+        result ≡ counts_in (t invocations_at) (t updates_at) (t switches_at) sensors when.mode.0 when.units when.unit }
 {
-    let due_invocations = due::due_rows(invocations, invocation::WIDTH, m, u, k);
-    let due_updates = due::due_rows(updates, update::WIDTH, m, u, k);
-    let due_switches = due::due_rows(switches, switch::WIDTH, m, u, k);
+    let m = when.mode;
+    let u = when.units;
+    let k = when.unit;
     Counts {
-        invocations: due_invocations,
-        updates: due_updates,
-        switches: due_switches,
-        sensors: sensors,
+        invocations: due::due_rows(tables.invocations, invocation::WIDTH, m, u, k),
+        updates: due::due_rows(tables.updates, update::WIDTH, m, u, k),
+        switches: due::due_rows(tables.switches, switch::WIDTH, m, u, k),
+        sensors,
     }
 }
 
@@ -93,43 +92,32 @@ pub fn block_size(c: Counts) -> usize
     before_tests(c) + (c.switches + (2 * c.invocations + (2 + 2 * c.switches)))
 }
 
-// How many instructions the block of unit k of mode m has; the mode has u units.
-fn unit_size(
-    invocations: &[i32],
-    updates: &[i32],
-    switches: &[i32],
-    sensors: usize,
-    m: Mode,
-    u: usize,
-    k: usize,
-) -> usize
-    requires few { Few invocations.now updates.now switches.now }
+// How many instructions the block of a unit has.
+fn unit_size(tables: &ProgramTables, sensors: usize, when: Instant) -> usize
+    requires few { Few tables.now.invocations.now tables.now.updates.now tables.now.switches.now }
     requires sensors_le_max_ports { sensors ≤ max_ports }
-    ensures { result ≡ size_of (counts_in invocations.now updates.now switches.now sensors m.0 u k) }
+    ensures { (start : ℤ) → let T = tables_in tables.now start in
+        result ≡ size_of (counts_in T.invocations T.updates T.switches sensors when.mode.0 when.units when.unit) }
 {
-    block_size(count(invocations, updates, switches, sensors, m, u, k))
+    block_size(count(tables, sensors, when))
 }
 
 // How many instructions the blocks of mode m have together; the mode has u units.
-pub fn mode_size(
-    invocations: &[i32],
-    updates: &[i32],
-    switches: &[i32],
-    sensors: usize,
-    m: Mode,
-    u: usize,
-) -> usize
-    requires few { Few invocations.now updates.now switches.now }
+pub fn mode_size(tables: &ProgramTables, sensors: usize, m: Mode, u: usize) -> usize
+    requires few { Few tables.now.invocations.now tables.now.updates.now tables.now.switches.now }
     requires sensors_le_max_ports { sensors ≤ max_ports }
     requires u_bound { u ≤ suc max_units }
-    ensures { result ≡ sum (λ k. size_of (counts_in invocations.now updates.now switches.now sensors
-        m.0 u k)) u }
+    ensures { (start : ℤ) → let T = tables_in tables.now start in
+        result ≡ sum (λ k. size_of (counts_in T.invocations T.updates T.switches sensors m.0 u k)) u }
 {
     let mut total = 0;
-    let mut k = 0;
-    while k < u {
-        total += unit_size(invocations, updates, switches, sensors, m, u, k);
-        k += 1;
+    for k in 0..u {
+        let when = Instant {
+            mode: m,
+            units: u,
+            unit: k,
+        };
+        total += unit_size(tables, sensors, when);
     }
     total
 }

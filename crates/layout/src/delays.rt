@@ -7,15 +7,16 @@ ghost use Rattle.program.specs.Tables.{tables_in, mode_count};
 ghost use Rattle.program.specs.Units.{units};
 ghost use Rattle.rules.specs.Shape.{InShape};
 ghost use Rattle.layout.specs.Counts.{counts_in, before_future, size_of, most_mode, most_code};
-ghost use Rattle.layout.specs.Few.{Few, Sized};
+ghost use Rattle.layout.specs.Few.{Sized};
 ghost use Rattle.layout.specs.Layout.{unit_counts, size_in};
 ghost use Rattle.layout.specs.Delays.{units_marked, mode_marks, ticks_in, mode_ticks, delays_of};
 
 use crate::counts;
-use crate::counts::Counts;
-use cells::kinds::Mode;
-use cells::limits::Program;
-use cells::{modes, tables};
+use crate::counts::{Counts, Instant};
+use cells::columns::mode;
+use cells::kinds::{Kind, Mode};
+use cells::modes;
+use cells::tables::ProgramTables;
 use program::multiples;
 
 // Mode m is marked at the `future` of a block that begins at this address. Where the block ends is returned.
@@ -31,30 +32,31 @@ fn mark_block(c: Counts, m: Mode, at: usize, marks: &mut [u8]) -> usize
 
 // Mode m is marked at the `future` of each of its u units; it begins at this address. Where it ends is returned.
 fn mark_units(
-    invocations: &[i32],
-    updates: &[i32],
-    switches: &[i32],
+    tables: &ProgramTables,
     sensors: usize,
     m: Mode,
     u: usize,
     at: usize,
     marks: &mut [u8],
 ) -> usize
-    requires few { Few invocations.now updates.now switches.now }
+    requires in_shape { InShape tables.now }
     requires sensors_le_max_ports { sensors ≤ max_ports }
     requires u_bound { u ≤ suc max_units }
     requires most_mode_bound { at + most_mode ≤ most_code }
-    ensures marks { marks.new ≡ units_marked (counts_in invocations.now updates.now
-        switches.now sensors m.0 u) m.0 at u marks.old }
-    ensures end { result ≡ at + sum (λ k. size_of (counts_in invocations.now updates.now
-        switches.now sensors m.0 u k)) u }
+    ensures marks { (start : ℤ) → let T = tables_in tables.now start in
+        marks.new ≡ units_marked (counts_in T.invocations T.updates T.switches sensors m.0 u) m.0 at u marks.old }
+    ensures end { (start : ℤ) → let T = tables_in tables.now start in
+        result ≡ at + sum (λ k. size_of (counts_in T.invocations T.updates T.switches sensors m.0 u k)) u }
 {
     let mut next = at;
-    let mut k = 0;
-    while k < u {
-        let c = counts::count(invocations, updates, switches, sensors, m, u, k);
+    for k in 0..u {
+        let when = Instant {
+            mode: m,
+            units: u,
+            unit: k,
+        };
+        let c = counts::count(tables, sensors, when);
         next = mark_block(c, m, next, marks);
-        k += 1;
     }
     next
 }
@@ -62,7 +64,7 @@ fn mark_units(
 // Mode m is marked at the `future` of each of its units, and the ticks of a unit are put for it; it begins at this address. Where it
 // ends is returned.
 fn mark_mode(
-    tables: &[&[i32]; Program::TABLES],
+    tables: &ProgramTables,
     sensors: usize,
     m: Mode,
     at: usize,
@@ -78,33 +80,28 @@ fn mark_mode(
         ticks.new ≡ set ticks.old m.0 (ticks_in T m.0) }
     ensures end { (start : ℤ) → result ≡ at + size_in (tables_in tables.now start) sensors m.0 }
 {
-    let invocations = tables[tables::INVOCATIONS];
-    let updates = tables[tables::UPDATES];
-    let switches = tables[tables::SWITCHES];
-    let u = multiples::units(invocations, updates, switches, m);
-    let period = modes::period(tables[tables::MODES], m);
+    let u = multiples::units(tables, m);
+    let period = modes::period(tables.modes, m);
     modes::put_number(ticks, m, period / u);
-    mark_units(invocations, updates, switches, sensors, m, u, at, marks)
+    mark_units(tables, sensors, m, u, at, marks)
 }
 
 // Each mode is marked at the address of the `future` of each of its units, and the ticks of a unit are put for it, counted from the
 // tables; the other places stay as they are. Where all was unmarked and 0, these are the delays that are counted.
-pub fn fill(tables: &[&[i32]; Program::TABLES], marks: &mut [u8], ticks: &mut [usize])
+pub fn fill(tables: &ProgramTables, marks: &mut [u8], ticks: &mut [usize])
     requires { InShape tables.now }
     ensures marks { (start : ℤ) → marks.new ≡ mode_marks (tables_in tables.now start) marks.old }
     ensures ticks { (start : ℤ) → ticks.new ≡ mode_ticks (tables_in tables.now start) ticks.old }
 {
-    let sensors = counts::sensors(tables[tables::PORTS]);
-    let modes = tables[tables::MODES];
+    let sensors = counts::sensors(tables.ports);
     let mut at = 1;
-    let mut m = Mode::of(0);
-    while modes::declared(modes, m) {
-        at = mark_mode(tables, sensors, m, at, marks, ticks);
-        m = m.next();
+    for k in 0..tables.modes.len() / mode::WIDTH {
+        at = mark_mode(tables, sensors, Mode::of(k), at, marks, ticks);
     }
 }
 
 // The delay of the `future` at an address, 0 where none stands.
+#[tactic(auto, unfolding(crate::specs::Delays::delays_of))]
 pub fn delay(marks: &[u8], ticks: &[usize], address: usize) -> usize
     ensures { result ≡ delays_of marks.now ticks.now address }
 {

@@ -16,7 +16,6 @@ use Rattle.code.specs.Op.{Op, instructions}
 use Rattle.code.specs.Compile.{call_refusals, call_rules}
 use Rattle.suppliers.specs.Schedule.{joined_tests, joined_bad, Joined, joined_row_rules}
 use Rattle.machine.specs.declared.State.{State}
-use Rattle.machine.specs.declared.Advanced.{Advanced}
 use Rattle.machine.specs.declared.Handed.{Handed}
 use Rattle.machine.specs.Instant.{Outcome, ok, stop, run_instant}
 use Rattle.machine.specs.Schedules.{tick_all}
@@ -134,6 +133,11 @@ ready P code readings times s = elim s.remaining [ zero ↦ run_instant P readin
 
 abbrev pub step : Program → List Op → List ℤ → Lent → State → Outcome
 step P code S X s = elim (ready P code X.readings X.times s) [ ok u ↦ tick_all P S X.results u | stop n ↦ stop n ]
+
+-- what an instant, a tick or a step of the state s comes to, in numbers: 0 and the state after it, or its number and s as it was
+pub record Advanced : Type 0 where
+  pub number : ℕ
+  pub state : State
 
 abbrev pub answer : State → Outcome → Advanced
 answer s (ok u) = record { number = accepted_number; state = u }

@@ -8,3 +8,4 @@ pub mod Fresh
 pub mod Comes
 pub mod Moves
 pub mod Uses
+pub mod Told

@@ -10,6 +10,7 @@ use Rattle.runs.specs.Tick.{left_of, Act, rest, work, left_after, Place, moved, 
 use Rattle.runs.specs.Schedule.{block_of}
 use Rattle.machine.specs.declared.State.{State}
 use Rattle.machine.specs.declared.Running.{Running}
+use Rattle.machine.specs.declared.Running.TheVariants.{Nobody, One, Several}
 use Rattle.machine.specs.declared.Shares.{Shares}
 use Rattle.machine.specs.Instant.{Outcome, ok, stop}
 
@@ -59,11 +60,11 @@ module _ (S : List ℤ) (s : State) where
     pub one-runs : runs_now one-supplier ≡ true
     pub other-runs : runs_now other-supplier ≡ true
 
--- who runs, as the code hands it on: how many do, two standing for more, and the task if one does
+-- who runs, as the code hands it on
 abbrev pub told : Who → Running
-told nobody = record { count = 0; job = record { 0 = 0 } }
-told (one t) = record { count = 1; job = record { 0 = t } }
-told several = record { count = 2; job = record { 0 = 0 } }
+told nobody = Nobody
+told (one t) = One (record { 0 = t })
+told several = Several
 
 abbrev pub shares_of : List ℤ → State → Shares
 shares_of S s = record { running = told (running S s); positions = each (moved_of S s) suppliers 0 }

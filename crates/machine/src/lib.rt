@@ -20,13 +20,6 @@ pub struct State {
     pub positions: [usize; Program::SUPPLIERS],
 }
 
-// What an instant or a tick comes to: 0 and the state after it, or the number that stops it and the state as it was.
-#[derive(Clone, Copy)]
-pub struct Advanced {
-    pub number: usize,
-    pub state: State,
-}
-
 // What a call on the machine answers: number and place, and the state handed back, which is as before on a refusal.
 #[derive(Clone, Copy)]
 pub struct Handed {
@@ -38,15 +31,17 @@ pub struct Handed {
 #[derive(Clone, Copy)]
 pub struct At {
     pub address: usize,
+    // A flag of 01's state, in which a second `future` is faulty: it is no outcome of a call.
     pub planned: bool,
     pub state: State,
 }
 
-// Who runs in a tick: how many suppliers do, two standing for more, and the task if one does.
+// Who runs in a tick: nobody, one task, or tasks of several suppliers.
 #[derive(Clone, Copy)]
-pub struct Running {
-    pub count: usize,
-    pub job: Task,
+pub enum Running {
+    Nobody,
+    One(Task),
+    Several,
 }
 
 // What a tick of all suppliers comes to: who runs, and the new positions.

@@ -5,52 +5,32 @@ use readings::Reading;
 use std::io;
 use std::io::Stdout;
 
-// Prints on a line whether an interval holds a value; the texts are those of the value and of the interval.
-fn line(
-    output: Stdout,
-    value: i32,
-    number: &[u8],
-    low: i32,
-    high: i32,
-    interval: &[u8],
-) -> io::Result<()> {
+// Prints on a line whether an interval holds a value.
+fn line(output: Stdout, value: i32, low: i32, high: i32) -> io::Result<()> {
     if Reading(value).is_missing() {
-        output.write_all(b"no reading")?;
+        output.print("no reading")?;
     } else {
-        output.write_all(b"reading ")?;
-        output.write_all(number)?;
+        print!(output; "reading {value}")?;
     }
-    output.write_all(b", interval ")?;
-    output.write_all(interval)?;
-    if Reading(value).within(low, high) {
-        output.write_all(b": inside\n")
+    let side = if Reading(value).within(low, high) {
+        "inside"
     } else {
-        output.write_all(b": outside\n")
-    }
+        "outside"
+    };
+    println!(output; ", interval {low}..{high}: {side}")
 }
 
 // Holds three readings against one interval: a small one, none, and the largest.
-fn three(output: Stdout, low: i32, high: i32, interval: &[u8]) -> io::Result<()> {
-    line(output, 5, b"5", low, high, interval)?;
-    line(
-        output,
-        Reading::NO_READING,
-        b"-2147483648",
-        low,
-        high,
-        interval,
-    )?;
-    line(output, 2147483647, b"2147483647", low, high, interval)
+fn three(output: Stdout, low: i32, high: i32) -> io::Result<()> {
+    for value in [5, Reading::NO_READING, i32::MAX] {
+        line(output, value, low, high)?;
+    }
+    Ok(())
 }
 
 fn main(rt: HostRuntime) -> io::Result<()> {
     let output = rt.stdout();
-    three(output, 0, 9, b"0..9")?;
-    three(output, -2147483647, 2147483647, b"-2147483647..2147483647")?;
-    three(
-        output,
-        Reading::NO_READING,
-        Reading::NO_READING,
-        b"-2147483648..-2147483648",
-    )
+    three(output, 0, 9)?;
+    three(output, -i32::MAX, i32::MAX)?;
+    three(output, Reading::NO_READING, Reading::NO_READING)
 }

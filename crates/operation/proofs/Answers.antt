@@ -8,14 +8,17 @@ use native.Mathlib.Omega.{arith}
 use lib.IntN.{ℤ}
 use lib.ListN.{length}
 use Rattle.theory.specs.Verdict.{accepted_number}
+use Rattle.std.specs.Prelude.{Result, Ok, Err}
 use Rattle.cells.specs.Limits.{max_elapsed}
+use Rattle.cells.specs.declared.refusals.Refusal.{Refusal}
+use Rattle.cells.proofs.Numbers.{number-some}
 use Rattle.program.specs.Program.{Program}
 use Rattle.code.specs.Op.{Op}
 use Rattle.machine.specs.declared.State.{State}
-use Rattle.machine.specs.declared.Advanced.{Advanced}
 use Rattle.machine.specs.Instant.{Outcome, ok, stop, start_at, Ends}
 use Rattle.machine.specs.Schedules.{tick_all}
-use Rattle.machine.specs.Advance.{Lent, ready, step, answer}
+use Rattle.machine.specs.Advance.{Advanced, Lent, ready, step, answer}
+use Rattle.machine.specs.Told.{advanced_of}
 use Rattle.machine.proofs.Collide.{tick-refused}
 use Rattle.machine.proofs.Ready.{ready-leaves, goes}
 use Rattle.machine.proofs.Refusals.{ready-number}
@@ -66,3 +69,9 @@ module _ (P : Program) (code : List Op) (S : List ℤ) (X : Lent) (s : State) wh
         go : (o : Outcome) → tick_all P S X.results u ≡ o → a ≡ answer u o → a ≡ answer s o
         go (ok v) h g = g
         go (stop n) h g = absurd (omega (arith, ((tick-refused P S X.results u n).0 h).0, z, ap (λ (a : Advanced). a.number) g))
+
+    -- what the tick of the state between comes to is what the step comes to
+    pub step-goes : (r : Result State Refusal) → a ≡ advanced_of u r → advanced_of s r ≡ answer s (step P code S X s)
+    step-goes (Ok v) g = sym g ∙ tick-passes (ap (λ (a : Advanced). a.number) g)
+    step-goes (Err k) g =
+        ap (λ (a : Advanced). record { number = a.number; state = s }) (sym g) ∙ tick-stops (omega (arith, number-some k, ap (λ (a : Advanced). a.number) g))

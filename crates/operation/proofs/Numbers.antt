@@ -1,8 +1,8 @@
 -- The answer of an advance before anything runs: its own 1, what every call asks of the tables, then 13 and 21; and what is known where
 -- there is none.
 -- Assumes of what runs that its number is 0.
-use Prim.Native.Nat.{◌/◌, ◌≤◌, ◌<◌}
-use mathlib.Core.Path.{◌≡◌, sym, ap, ◌∙◌}
+use Prim.Native.Nat.{◌/◌, ◌≤◌}
+use mathlib.Core.Path.{◌≡◌, refl, ap, ◌∙◌}
 use mathlib.Core.Bool.{Bool, true, false, cond}
 use mathlib.Core.List.{List, [], ◌∷◌, ◌++◌, map}
 use native.Mathlib.Omega.{arith}
@@ -11,9 +11,11 @@ use Rattle.theory.specs.Rows.{placeless}
 use Rattle.theory.specs.Verdict.{accepted_number, Refusal, unplaced, within, first_refusal, rows_answer, or_next}
 use Rattle.theory.specs.declared.Answer.{Answer}
 use Rattle.theory.proofs.Bools.{bars-iff}
-use Rattle.theory.proofs.Verdict.{next-given, next-none, answer-append, verdict-clear, verdict-both}
+use Rattle.theory.proofs.Verdict.{answer-append, verdict-clear, verdict-both}
 use Rattle.cells.specs.Limits.{max_code, words_each}
+use Rattle.cells.specs.declared.refusals.Refusal.TheVariants.{Shape, State}
 use Rattle.cells.specs.Refusals.{shape_refused, schedule_refused, state_refused}
+use Rattle.answers.specs.Answers.{told_where}
 use Rattle.rules.specs.Shape.{shape_bad}
 use Rattle.rules.specs.Verdict.{table_refusals}
 use Rattle.rules.proofs.Shape.{shape-bars, whole-few}
@@ -28,7 +30,7 @@ use Rattle.operation.specs.Advancing.{judged_answer}
 
 -- the answer of 21 by itself
 abbrev pub state_answer : Advance → Answer
-state_answer L = cond (state_bad L) (placeless state_refused) (placeless accepted_number)
+state_answer L = told_where (state_bad L) State
 
 -- the answer of 13, and then that of 21
 abbrev pub own_answer : Advance → Answer
@@ -48,29 +50,20 @@ judged-order L =
     (call-answer (λ (L : Advance). L.tables) run_refusals L ∙ ap (or_next (tables_and_code_answer L.tables)) (own-order L))
 
 module _ (L : Advance) where
-  -- where something that is lent does not have its shape, the answer is 1
-  pub judged-one : advance_shape_bad L ≡ true → judged_answer L ≡ placeless shape_refused
-  judged-one e = judged-order L ∙ ap (λ (b : Bool). cond b (placeless shape_refused) (or_next (tables_and_code_answer L.tables) (own_answer L))) e
-
   -- where everything that is lent has its shape, so have the tables
   pub advance-shaped : advance_shape_bad L ≡ false → shape_bad L.tables ≡ false
   advance-shaped e = (bars-iff (shape-bars L.tables)).1 ((advance-shape-bars L).ok e).tables
 
-  module _ (s : advance_shape_bad L ≡ false) (x : Answer) (e : x ≡ tables_and_code_answer L.tables) where
-    -- where everything that is lent has its shape, the tables are asked, then 13 and 21
-    judged-next : judged_answer L ≡ or_next x (own_answer L)
-    judged-next =
-        judged-order L
-        ∙ ap (λ (b : Bool). cond b (placeless shape_refused) (or_next (tables_and_code_answer L.tables) (own_answer L))) s
-        ∙ ap (λ (y : Answer). or_next y (own_answer L)) (sym e)
+  -- 1 is asked first, and then what is asked of what has its shape
+  pub shape-order : judged_answer L ≡ or_next (told_where (advance_shape_bad L) Shape) (or_next (tables_and_code_answer L.tables) (own_answer L))
+  shape-order = judged-order L ∙ go (advance_shape_bad L)
+    where
+      rest : Answer
+      rest = or_next (tables_and_code_answer L.tables) (own_answer L)
 
-    -- a refusal of the tables that every call asks for is the advance's
-    pub judged-given : accepted_number < x.number → judged_answer L ≡ x
-    judged-given l = judged-next ∙ next-given x (own_answer L) (λ z. omega (arith, z, l))
-
-    -- where the tables are not refused, 13 and 21 decide
-    pub judged-own : x.number ≡ accepted_number → judged_answer L ≡ own_answer L
-    judged-own z = judged-next ∙ next-none x (own_answer L) z
+      go : (b : Bool) → cond b (placeless shape_refused) rest ≡ or_next (told_where b Shape) rest
+      go true = refl
+      go false = refl
 
 -- what an advance asks before 13
 abbrev before : List (Refusal Advance)

@@ -1,5 +1,6 @@
 // Numbers 1 to 11, 24, 13 and 21 of an advance, with their places: what is asked before anything runs.
 ghost use Rattle.std.specs.Prelude.{◌≡◌, ℤ};
+ghost use Rattle.answers.specs.Answers.{answer_of};
 ghost use Rattle.cells.specs.Limits.{max_code, words_each};
 ghost use Rattle.program.specs.Tables.{tables_in};
 ghost use Rattle.rules.specs.Shape.{bad_slice};
@@ -7,13 +8,14 @@ ghost use Rattle.machine.specs.declared.State.{State};
 ghost use Rattle.machine.specs.Advance.{advance_shape_bad};
 ghost use Rattle.operation.specs.Advancing.{lent_of, advancing, judged_answer};
 
+use answers::Refused;
 use cells::columns::schedule;
 use cells::limits::Program;
-use cells::refusals;
+use cells::refusals::Refusal;
+use cells::tables::ProgramTables;
 use machine::State;
 use rules_1_2::slices;
 use suppliers::joined;
-use theory::Answer;
 use ticking::range;
 
 // The E code is not whole instructions, or has more of them than the limit.
@@ -26,7 +28,7 @@ fn bad_code(code: &[u32]) -> bool
 
 // Some slice that is lent breaks number 1, whatever the start mode and the state.
 fn shape_bad(
-    tables: &[&[i32]; Program::TABLES],
+    tables: &ProgramTables,
     code: &[u32],
     schedule: &[i32],
     readings: &[i32],
@@ -47,7 +49,7 @@ fn shape_bad(
 
 // The first of numbers 1 to 11, 24, 13 and 21 that applies to an advance, with its place; accepted where none does.
 pub fn answer(
-    tables: &[&[i32]; Program::TABLES],
+    tables: &ProgramTables,
     program: Program,
     code: &[u32],
     schedule: &[i32],
@@ -55,26 +57,16 @@ pub fn answer(
     readings: &[i32],
     results: &[i32],
     times: &[i32],
-) -> Answer
+) -> Result<(), Refused>
     ensures { let X = lent_of readings.now results.now times.now in
         let T = tables_in tables.now program.start in
-        result ≡ judged_answer (advancing T code.now schedule.now s X) }
+        answer_of result ≡ judged_answer (advancing T code.now schedule.now s X) }
 {
-    if shape_bad(tables, code, schedule, readings, results, times) {
-        return answers::refused(refusals::SHAPE);
-    }
-    let asked = verdict_2_11::tables_and_code(tables, program);
-    if refusals::ACCEPTED < asked.number {
-        return asked;
-    }
-    let scheduled = joined::answer(tables, schedule);
-    if refusals::ACCEPTED < scheduled.number {
-        return scheduled;
-    }
+    let bad = shape_bad(tables, code, schedule, readings, results, times);
+    answers::refused_where(bad, Refusal::Shape)?;
+    verdict_2_11::tables_and_code(tables, program)?;
+    joined::answer(tables, schedule)?;
     let instructions = code.len() / Program::WORDS;
     let rows = schedule.len() / schedule::WIDTH;
-    if range::out_of_range(instructions, rows, s) {
-        return answers::refused(refusals::STATE);
-    }
-    answers::accepted()
+    answers::refused_where(range::out_of_range(instructions, rows, s), Refusal::State)
 }

@@ -9,11 +9,14 @@ ghost use Rattle.rules.specs.Shape.{InShape};
 ghost use Rattle.code.specs.Op.{instructions};
 ghost use Rattle.suppliers.specs.Schedule.{Rows};
 ghost use Rattle.machine.specs.Advance.{state_of, ready, step, answer, handed, fresh_answer, advance_answer};
+ghost use Rattle.machine.specs.Told.{advanced_of};
 ghost use Rattle.operation.specs.Advancing.{lent_of, advancing};
 
+use answers::Refused;
 use cells::limits::Program;
-use cells::{refusals, tables};
-use machine::{Advanced, Handed, State};
+use cells::refusals::Refusal;
+use cells::tables::ProgramTables;
+use machine::{Handed, State};
 use ticking::{schedules, values};
 
 mod judged;
@@ -36,54 +39,49 @@ fn begun(values: [i32; Program::PORTS]) -> State
 }
 
 // The fresh state of an accepted program; all 0 where the program is refused. Any slices at all may be lent.
-pub fn fresh(tables: &[&[i32]; Program::TABLES], program: Program) -> Handed
+pub fn fresh(tables: &ProgramTables, program: Program) -> Handed
     ensures { result ≡ fresh_answer (tables_in tables.now program.start) }
 {
-    let answer = verdict::program_verdict(tables, program);
-    if refusals::ACCEPTED < answer.number {
-        let nothing = [0; Program::PORTS];
-        let state = begun(nothing);
-        return Handed { answer, state };
-    }
-    let first = values::first_values(tables[tables::PORTS]);
-    let state = begun(first);
-    Handed {
-        answer: answers::accepted(),
-        state,
+    match verdict::program_verdict(tables, program) {
+        Ok(()) => Handed {
+            answer: answers::answer(Ok(())),
+            state: begun(values::first_values(tables.ports)),
+        },
+        Err(refused) => Handed {
+            answer: answers::answer(Err(refused)),
+            state: begun([0; Program::PORTS]),
+        },
     }
 }
 
 // The E part of an advance: the E code runs if no tick of the unit remains.
 fn ready(
-    tables: &[&[i32]; Program::TABLES],
+    tables: &ProgramTables,
     code: &[u32],
     readings: &[i32],
     times: &[i32],
     s: State,
-) -> Advanced
+) -> Result<State, Refusal>
     requires { InShape tables.now }
     ensures { (start : ℤ) → let P = program_of (tables_in tables.now start) in
-        result ≡ answer s (ready P (instructions code.now) readings.now times.now s) }
+        advanced_of s result ≡ answer s (ready P (instructions code.now) readings.now times.now s) }
 {
     if 0 < s.remaining {
-        return Advanced {
-            number: refusals::ACCEPTED,
-            state: s,
-        };
+        return Ok(s);
     }
     instants::instant(tables, code, readings, times, s)
 }
 
 // The step of an advance: the E code if no tick of the unit remains, then one tick of the schedules.
 fn step(
-    tables: &[&[i32]; Program::TABLES],
+    tables: &ProgramTables,
     code: &[u32],
     schedule: &[i32],
     s: State,
     readings: &[i32],
     results: &[i32],
     times: &[i32],
-) -> Handed
+) -> Result<State, Refusal>
     requires in_shape { InShape tables.now }
     requires words_each_len_bound { length code.now / words_each ≤ max_code }
     requires current_in_bounds { s.current < length code.now / words_each }
@@ -91,35 +89,31 @@ fn step(
     ensures { (start : ℤ) → let X = lent_of readings.now results.now times.now in
         let T = tables_in tables.now start in
         Rows T schedule.now
-        → result ≡ handed (answer s (step (program_of T) (instructions code.now) schedule.now X s)) }
+        → advanced_of s result ≡ answer s (step (program_of T) (instructions code.now) schedule.now X s) }
 {
-    let begun = ready(tables, code, readings, times, s);
-    if refusals::ACCEPTED < begun.number {
-        return Handed {
-            answer: answers::refused(begun.number),
+    let begun = ready(tables, code, readings, times, s)?;
+    schedules::tick_all(tables, schedule, results, begun)
+}
+
+// What is handed back after a step of the state s: the state after it, or its refusal, which has no place, and s as it was.
+fn handed(after: Result<State, Refusal>, s: State) -> Handed
+    ensures { result ≡ handed (advanced_of s after) }
+{
+    match after {
+        Ok(state) => Handed {
+            answer: answers::answer(Ok(())),
+            state,
+        },
+        Err(refusal) => Handed {
+            answer: answers::answer(Err(Refused::from(refusal))),
             state: s,
-        };
-    }
-    let before = begun.state;
-    let ports = tables[tables::PORTS];
-    let task_ports = tables[tables::TASK_PORTS];
-    let after = schedules::tick_all(ports, task_ports, schedule, results, before);
-    if refusals::ACCEPTED < after.number {
-        return Handed {
-            answer: answers::refused(after.number),
-            state: s,
-        };
-    }
-    let state = after.state;
-    Handed {
-        answer: answers::accepted(),
-        state,
+        },
     }
 }
 
 // An advance of the machine by one tick. Any slices, any words and any state at all may be lent.
 pub fn advance(
-    tables: &[&[i32]; Program::TABLES],
+    tables: &ProgramTables,
     program: Program,
     code: &[u32],
     schedule: &[i32],
@@ -132,9 +126,11 @@ pub fn advance(
         let T = tables_in tables.now program.start in
         result ≡ advance_answer (advancing T code.now schedule.now s X) }
 {
-    let answer = judged::answer(tables, program, code, schedule, s, readings, results, times);
-    if refusals::ACCEPTED < answer.number {
-        return Handed { answer, state: s };
+    match judged::answer(tables, program, code, schedule, s, readings, results, times) {
+        Ok(()) => handed(step(tables, code, schedule, s, readings, results, times), s),
+        Err(refused) => Handed {
+            answer: answers::answer(Err(refused)),
+            state: s,
+        },
     }
-    step(tables, code, schedule, s, readings, results, times)
 }

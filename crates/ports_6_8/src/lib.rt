@@ -1,5 +1,5 @@
-// Numbers 6, 7 and 8 ask of a task's ports, a mode's ports and a driver's copies whether one of them is wrong. Here each such
-// question is a row's test and a search with it; an inner search is made only for rows that count.
+// Numbers 6, 7 and 8 ask of a task's ports, a mode's ports and a driver's copies whether one of them is wrong. What is wrong of a port
+// the caller says by a test, which is asked only in rows that count.
 #![tactic(auto)]
 
 mod copies;

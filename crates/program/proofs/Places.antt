@@ -5,12 +5,15 @@ use mathlib.Core.List.{List, [], ◌∷◌}
 use native.Mathlib.Omega.{arith}
 use lib.IntN.{ℤ}
 use lib.ListN.{get_or, length, get_or-eq_default}
-use denote.Ref.{Bor}
+use Rattle.cells.specs.declared.tables.ProgramTables.{ProgramTables}
 use Rattle.theory.specs.Lists.{Every}
 use Rattle.cells.specs.Cell.{rows_in}
 use Rattle.cells.specs.Limits.{table_count}
 use Rattle.program.specs.Tables.{table_at, tables_in, rows_at, port_width, task_width, task_port_width, driver_width, copy_width}
 use Rattle.program.specs.Tables.{mode_width, mode_port_width, invocation_width, update_width, switch_width}
+use Rattle.program.specs.Tables.{Tables, ports_at, tasks_at, task_ports_at, drivers_at, copies_at, modes_at, mode_ports_at, invocations_at}
+use Rattle.program.specs.Tables.{updates_at, switches_at, port_count, task_count, task_port_count, driver_count, copy_count, mode_count}
+use Rattle.program.specs.Tables.{mode_port_count, invocation_count, update_count, switch_count}
 
 -- how many numbers a row of each table has, in the order of the tables
 abbrev pub widths : List ℕ
@@ -38,7 +41,7 @@ counted (w ∷ ws) t zero l = refl
 counted (w ∷ ws) t (suc k) l = counted ws (λ j. t (suc j)) k (omega arith)
 
 -- the rows of the table at a place are as many as its numbers have room for
-pub rows-at : (lent : List (Bor (List ℤ))) (start : ℤ) (place : ℕ) → place < table_count
+pub rows-at : (lent : ProgramTables) (start : ℤ) (place : ℕ) → place < table_count
     → length (table_at lent place) / get_or widths place 0 ≡ rows_at (tables_in lent start) place
 rows-at lent start place l = counted widths (table_at lent) place l
 
@@ -52,25 +55,75 @@ pub width_some : (place : ℕ) → place < table_count → 0 < get_or widths pla
 width_some place l = some-width widths (search arith) place l
 
 -- past the last table there are no rows
-pub rows-past : (lent : List (Bor (List ℤ))) (start : ℤ) (place : ℕ) → table_count ≤ place → rows_at (tables_in lent start) place ≡ 0
+pub rows-past : (lent : ProgramTables) (start : ℤ) (place : ℕ) → table_count ≤ place → rows_at (tables_in lent start) place ≡ 0
 rows-past lent start place h = get_or-eq_default (counts widths (table_at lent)) 0 h
 
 -- ten lent tables stand in 01's order: ports, tasks, task ports, drivers, copies, modes, mode ports, invocations, updates, switches
-pub in_order : (ports tasks task-ports drivers copies modes mode-ports invocations updates switches : Bor (List ℤ)) (start : ℤ)
-    → tables_in
-    (ports ∷ tasks ∷ task-ports ∷ drivers ∷ copies ∷ modes ∷ mode-ports ∷ invocations ∷ updates ∷ switches ∷ [])
-    start
+pub in_order : (lent : ProgramTables) (start : ℤ)
+    → tables_in lent start
     ≡ record {
-      ports = ports.now;
-      tasks = tasks.now;
-      task_ports = task-ports.now;
-      drivers = drivers.now;
-      copies = copies.now;
-      modes = modes.now;
-      mode_ports = mode-ports.now;
-      invocations = invocations.now;
-      updates = updates.now;
-      switches = switches.now;
+      ports = lent.ports.now;
+      tasks = lent.tasks.now;
+      task_ports = lent.task_ports.now;
+      drivers = lent.drivers.now;
+      copies = lent.copies.now;
+      modes = lent.modes.now;
+      mode_ports = lent.mode_ports.now;
+      invocations = lent.invocations.now;
+      updates = lent.updates.now;
+      switches = lent.switches.now;
       start = start;
     }
-in_order ports tasks task-ports drivers copies modes mode-ports invocations updates switches start = refl
+in_order lent start = refl
+
+-- each place by its name has the table of that name
+pub placed : (lent : ProgramTables)
+    → table_at lent ports_at
+    ∷ table_at lent tasks_at
+    ∷ table_at lent task_ports_at
+    ∷ table_at lent drivers_at
+    ∷ table_at lent copies_at
+    ∷ table_at lent modes_at
+    ∷ table_at lent mode_ports_at
+    ∷ table_at lent invocations_at
+    ∷ table_at lent updates_at
+    ∷ table_at lent switches_at
+    ∷ []
+    ≡ lent.ports.now
+    ∷ lent.tasks.now
+    ∷ lent.task_ports.now
+    ∷ lent.drivers.now
+    ∷ lent.copies.now
+    ∷ lent.modes.now
+    ∷ lent.mode_ports.now
+    ∷ lent.invocations.now
+    ∷ lent.updates.now
+    ∷ lent.switches.now
+    ∷ []
+placed lent = refl
+
+-- and the rows that are counted at a place by its name are those of the table of that name
+pub placed-rows : (T : Tables)
+    → rows_at T ports_at
+    ∷ rows_at T tasks_at
+    ∷ rows_at T task_ports_at
+    ∷ rows_at T drivers_at
+    ∷ rows_at T copies_at
+    ∷ rows_at T modes_at
+    ∷ rows_at T mode_ports_at
+    ∷ rows_at T invocations_at
+    ∷ rows_at T updates_at
+    ∷ rows_at T switches_at
+    ∷ []
+    ≡ port_count T
+    ∷ task_count T
+    ∷ task_port_count T
+    ∷ driver_count T
+    ∷ copy_count T
+    ∷ mode_count T
+    ∷ mode_port_count T
+    ∷ invocation_count T
+    ∷ update_count T
+    ∷ switch_count T
+    ∷ []
+placed-rows T = refl

@@ -1,6 +1,6 @@
 -- The ten tables of a program and its start mode, as they are lent: tables by their place, columns by name, rows by number.
 use Rattle.std.specs.Prelude.{ℕ, List, [], ◌∷◌, ℤ, get_or}
-use Rattle.std.specs.Borrow.{Bor}
+use Rattle.cells.specs.declared.tables.ProgramTables.{ProgramTables}
 use Rattle.cells.specs.Cell.{index_of, name_of, rows_in, field_at, named_at, value_at}
 pub use Rattle.cells.specs.Columns.{port_width, port_kind_column, port_first_column, task_width, task_supplier_column, task_worst_column}
 pub use Rattle.cells.specs.Columns.{task_port_width, task_port_task_column, task_port_port_column, driver_width, guard_kind_column, guard_port_column}
@@ -82,20 +82,19 @@ start_at = 12
 abbrev pub supplier_at : ℕ
 supplier_at = 13
 
--- a table without numbers, which stands past the last table
-abbrev pub no_table : Bor (List ℤ)
-no_table = record { ref_ptr = (0, 0); now = [] }
-
--- the numbers of the table that stands at a place of what is lent
-abbrev pub table_at : List (Bor (List ℤ)) → ℕ → List ℤ
-table_at slices place = (get_or slices place no_table).now
+-- the numbers of the table that stands at a place of what is lent; none past the last table
+abbrev pub table_at : ProgramTables → ℕ → List ℤ
+table_at lent place =
+    get_or
+    (lent.ports.now ∷ lent.tasks.now ∷ lent.task_ports.now ∷ lent.drivers.now ∷ lent.copies.now ∷ lent.modes.now ∷ lent.mode_ports.now
+    ∷ lent.invocations.now ∷ lent.updates.now ∷ lent.switches.now ∷ [])
+    place []
 
 -- ten tables lent as one value, with a start mode
-abbrev pub tables_in : List (Bor (List ℤ)) → ℤ → Tables
-tables_in slices start =
-    tables (table_at slices ports_at) (table_at slices tasks_at) (table_at slices task_ports_at) (table_at slices drivers_at)
-    (table_at slices copies_at) (table_at slices modes_at) (table_at slices mode_ports_at) (table_at slices invocations_at)
-    (table_at slices updates_at) (table_at slices switches_at) start
+abbrev pub tables_in : ProgramTables → ℤ → Tables
+tables_in lent start =
+    tables lent.ports.now lent.tasks.now lent.task_ports.now lent.drivers.now lent.copies.now lent.modes.now lent.mode_ports.now
+    lent.invocations.now lent.updates.now lent.switches.now start
 
 -- ports, counted, and by row: kind (0 sensor, 1 actuator, 2 task input, 3 task output, 4 private), first value
 abbrev pub port_count : Tables → ℕ

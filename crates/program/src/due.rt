@@ -7,6 +7,7 @@ ghost use Rattle.program.specs.Units.{due, row_due, due_rows};
 use cells::columns::timed;
 use cells::kinds::Mode;
 use cells::table;
+use theory::scan;
 
 // A row of frequency f is due at unit k of a mode of u units.
 fn is_due(u: usize, f: usize, k: usize) -> bool
@@ -23,13 +24,14 @@ fn is_due(u: usize, f: usize, k: usize) -> bool
 }
 
 // Row i of the table is one of mode m, which has u units, and is due at unit k.
+#[tactic(auto, unfolding(crate::specs::Units::row_due))]
 pub fn row_due(t: &[i32], width: usize, m: Mode, u: usize, k: usize, i: usize) -> bool
     requires { Column width frequency_column }
     ensures { result ≡ row_due width t.now m.0 u k i }
 {
-    let own = table::mode(t, width, i, timed::MODE);
+    let own: Mode = table::named(t, width, i, timed::MODE);
     let f = table::field(t, width, i, timed::FREQUENCY);
-    own.is(m) & is_due(u, f, k)
+    (own == m) & is_due(u, f, k)
 }
 
 // How many rows of the table are of mode m, which has u units, and due at unit k.
@@ -38,13 +40,5 @@ pub fn due_rows(t: &[i32], width: usize, m: Mode, u: usize, k: usize) -> usize
     ensures { result ≡ length (due_rows width t.now m.0 u k (λ i. i)) }
 {
     let n = t.len() / width;
-    let mut count = 0;
-    let mut i = 0;
-    while i < n {
-        if row_due(t, width, m, u, k, i) {
-            count += 1;
-        }
-        i += 1;
-    }
-    count
+    scan::count(n, |i| row_due(t, width, m, u, k, i))
 }

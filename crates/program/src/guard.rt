@@ -6,7 +6,7 @@ ghost use Rattle.program.specs.Tables.{Tables, guard_kind, guard_port, guard_low
 ghost use Rattle.program.specs.Guard.{guard_of, holds, meet};
 ghost use Rattle.program.specs.Ports.{value_of};
 
-use cells::columns::driver;
+use cells::codes::GuardKind;
 use cells::kinds::{Driver, Port};
 use cells::{drivers, ports};
 use readings::Reading;
@@ -15,14 +15,14 @@ use readings::Reading;
 pub fn is_always(drivers: &[i32], d: Driver) -> bool
     ensures { (T : Tables) → T.drivers ≡ drivers.now → result ≡ eqb (guard_kind T d.0) kind_always }
 {
-    drivers::guard(drivers, d) == driver::ALWAYS
+    drivers::is(drivers, d, GuardKind::Always)
 }
 
 // The guard of driver d is an interval.
 pub fn is_interval(drivers: &[i32], d: Driver) -> bool
     ensures { (T : Tables) → T.drivers ≡ drivers.now → result ≡ eqb (guard_kind T d.0) kind_interval }
 {
-    drivers::guard(drivers, d) == driver::INTERVAL
+    drivers::is(drivers, d, GuardKind::Interval)
 }
 
 // The interval of driver d's guard is from no-reading to no-reading.
@@ -38,21 +38,21 @@ pub fn looks_at(drivers: &[i32], d: Driver, p: Port) -> bool
     ensures { (T : Tables) → T.drivers ≡ drivers.now
         → result ≡ (eqb (guard_kind T d.0) kind_interval && eqb (guard_port T d.0) p.0) }
 {
-    is_interval(drivers, d) & drivers::port(drivers, d).is(p)
+    is_interval(drivers, d) & (drivers::port(drivers, d) == p)
 }
 
 // The guards of drivers d and e ask the same port.
 fn one_port(drivers: &[i32], d: Driver, e: Driver) -> bool
     ensures { (T : Tables) → T.drivers ≡ drivers.now → result ≡ eqb (guard_port T d.0) (guard_port T e.0) }
 {
-    drivers::port(drivers, d).is(drivers::port(drivers, e))
+    drivers::port(drivers, d) == drivers::port(drivers, e)
 }
 
 // The interval of driver d's guard begins no later than that of driver e's guard ends.
 fn low_at_most_high(drivers: &[i32], d: Driver, e: Driver) -> bool
     ensures { (T : Tables) → T.drivers ≡ drivers.now → result ≡ le_z (guard_low T d.0) (guard_high T e.0) }
 {
-    readings::at_most(drivers::low(drivers, d), drivers::high(drivers, e))
+    drivers::low(drivers, d) <= drivers::high(drivers, e)
 }
 
 // The guards of drivers d and e can both hold for one valuation of the ports.

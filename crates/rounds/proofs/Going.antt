@@ -3,14 +3,15 @@
 -- Assumes of the schedule that it is sorted; for the limits, of the tables that number 1 passes them.
 use Prim.Native.Nat.{ℕ, zero, suc, ◌+◌, ◌-◌, ◌≤◌, ◌<◌}
 use mathlib.Core.Path.{◌≡◌, refl, sym, ap, subst, subst₂, ◌∙◌}
-use mathlib.Core.Bool.{false}
+use mathlib.Core.Bool.{Bool, true, false}
 use mathlib.Core.List.{List}
 use native.Mathlib.Nat.{add-zero, add_assoc, le_trans}
 use native.Mathlib.Numerals.{add-one}
 use native.Mathlib.Omega.{arith}
 use lib.IntN.{ℤ}
 use Rattle.theory.specs.Lists.{sum}
-use Rattle.theory.specs.Verdict.{accepted_number}
+use Rattle.std.specs.Prelude.{Result, Ok, Err}
+use Rattle.theory.proofs.Bools.{clash}
 use Rattle.cells.specs.Limits.{max_ports, max_units}
 use Rattle.program.specs.Tables.{Tables}
 use Rattle.rules.specs.Shape.{shape_bad}
@@ -22,12 +23,14 @@ use Rattle.runs.specs.Schedule.{rows_of, block_of, Sorted, found, span_of}
 use Rattle.runs.specs.Round.{Course, Break, none, outside, late, worst_case, judge, nothing, worst_break}
 use Rattle.runs.proofs.Blocks.{behind-later, found_within, found-behind}
 use Rattle.runs.proofs.Found.{block-found}
-use Rattle.suppliers.specs.Supplier.{break_number, break_tick}
-use Rattle.rounds.specs.declared.round.Rounded.{Rounded}
-use Rattle.rounds.specs.declared.units.Ended.{Ended}
+use Rattle.answers.specs.declared.Refused.{Refused}
+use Rattle.answers.specs.Answers.{answer_of as told}
+use Rattle.suppliers.specs.Supplier.{answer_of}
+use Rattle.rounds.specs.declared.round.Reached.{Reached}
+use Rattle.rounds.specs.declared.units.Broken.{Broken}
 use Rattle.rounds.specs.Course.{course_in, block_at, rows_at_future, row_before, Come}
-use Rattle.rounds.specs.Breaks.{unit_end, rounded}
-use Rattle.rounds.proofs.Stops.{unit-passed, unit-breaks, unit-own-block}
+use Rattle.rounds.specs.Breaks.{outside_at, late_at, unit_end, rounded}
+use Rattle.rounds.proofs.Stops.{ok-same, err-same, err_mapped, unit-passed, unit-breaks, unit-own-block}
 
 -- a walk goes on from the address of a block to its end, over the rows found at its `future`
 come-more : (S : List ℤ) (s at row : ℕ) (c : Counts) → Come S s at row → Come S s (at + size_of c) (found S row s (at + before_future c)).end
@@ -48,36 +51,34 @@ come-walk S s counts first from h (suc k) =
     subst (λ (a : ℕ). Come S s a (row_before S s counts first from (suc k))) (add_assoc first (sum (λ j. size_of (counts j)) k) (size_of (counts k)))
     (come-more S s (block_at counts first k) (row_before S s counts first from k) (counts k) (come-walk S s counts first from h k))
 
--- what the code makes of a break is the round with it
-pub rounded-breaks : (b : Break) (at row : ℕ) {n t : ℕ} → accepted_number < n → n ≡ break_number b → t ≡ break_tick b
-    → ◌≡◌ {A = Rounded} (record { number = n; tick = t; at = 0; row = 0 }) (rounded b at row)
-unfolding rounded
-rounded-breaks none at row l e f = absurd (omega arith)
-rounded-breaks (outside t) at row l e f = λ j. record { number = e j; tick = f j; at = 0; row = 0 }
-rounded-breaks (late t) at row l e f = λ j. record { number = e j; tick = f j; at = 0; row = 0 }
+-- a run breaks
+abbrev breaks : Break → Bool
+breaks none = false
+breaks (outside t) = true
+breaks (late t) = true
 
--- what the code makes of no break is the round without one
-pub rounded-whole : (b : Break) {at row at' row' : ℕ} → accepted_number ≡ break_number b → at ≡ at' → row ≡ row'
-    → ◌≡◌ {A = Rounded} (record { number = accepted_number; tick = 0; at = at; row = row }) (rounded b at' row')
-unfolding rounded
-rounded-whole none e f g = λ j. record { number = accepted_number; tick = 0; at = f j; row = g j }
-rounded-whole (outside t) e f g = absurd (omega arith)
-rounded-whole (late t) e f g = absurd (omega arith)
+-- what is refused where a round of mode m breaks
+abbrev pub refused_in : ℕ → Broken → Refused
+refused_in m b = record { refusal = b.refusal; outer = m; inner = b.tick }
 
--- what a round says: the number and the tick of its break, or where it has come to
-pub record Told (r : Rounded) (b : Break) (at row : ℕ) : Type 0 where
-  pub number : r.number ≡ break_number b
-  pub tick : r.tick ≡ break_tick b
-  pub came : r.number ≡ accepted_number → (r.at ≡ at) × (r.row ≡ row)
-
-pub rounded-says : {r : Rounded} {b : Break} {at row : ℕ} → r ≡ rounded b at row → Told r b at row
+-- where a round is accepted, its run does not break, and it says where the walk has come to
+pub round-accepted : (b : Break) (at row m : ℕ) {r : Reached} → Ok r ≡ err_mapped (refused_in m) (rounded b at row)
+    → (b ≡ none) × (r.at ≡ at) × (r.row ≡ row)
 unfolding rounded
-rounded-says {r} {b} {at} {row} e = subst (λ (x : Rounded). Told x b at row) (sym e) (go b)
-  where
-    go : (b : Break) → Told (rounded b at row) b at row
-    go none = record { number = refl; tick = refl; came = λ e. (refl, refl) }
-    go (outside t) = record { number = refl; tick = refl; came = λ e. absurd (omega arith) }
-    go (late t) = record { number = refl; tick = refl; came = λ e. absurd (omega arith) }
+round-accepted none at row m {r} e =
+    let q = ok-same r (record { at = at; row = row }) e in (refl, ap (λ (x : Reached). x.at) q, ap (λ (x : Reached). x.row) q)
+round-accepted (outside t) at row m e = absurd (grind arith)
+round-accepted (late t) at row m e = absurd (grind arith)
+
+-- where a round is refused, its run breaks, and its break is what is answered on its mode
+pub round-refused : (b : Break) (at row m : ℕ) {x : Refused} → Err x ≡ err_mapped (refused_in m) (rounded b at row)
+    → (b ≡ none → ⊥) × (told {A = Unit {0}} (Err x) ≡ answer_of m b)
+unfolding rounded
+round-refused none at row m e = absurd (grind arith)
+round-refused (outside t) at row m {x} e =
+    (λ z. clash refl (ap breaks z), ap (λ (x : Refused). told {A = Unit {0}} (Err x)) (err-same x (refused_in m (outside_at t)) e))
+round-refused (late t) at row m {x} e =
+    (λ z. clash refl (ap breaks z), ap (λ (x : Refused). told {A = Unit {0}} (Err x)) (err-same x (refused_in m (late_at t)) e))
 
 module _ (T : Tables) (W S : List ℤ) (sensors s m u ticks first from : ℕ) where
   -- how much is due at each unit (`counts`), and the course of the round (`run`)
@@ -123,7 +124,7 @@ module _ (T : Tables) (W S : List ℤ) (sensors s m u ticks first from : ℕ) wh
         )
 
     -- the next unit, as it was counted, found and run
-    module _ {c : Counts} {before : ℕ} {span : Span} {part : List ℤ} {unit : Ended} (o : Sorted S) (l : k < u) (d : c ≡ counts k) (b : before ≡ before_future c)
+    module _ {c : Counts} {before : ℕ} {span : Span} {part : List ℤ} {unit : Result (List ℕ) Broken} (o : Sorted S) (l : k < u) (d : c ≡ counts k) (b : before ≡ before_future c)
         (q : span ≡ found S row s (at + before)) (p : part ≡ span_of S span)
         (e : unit ≡ unit_end (course_in T.tasks T.invocations W s m u ticks (λ j. rows_of part)) k left) where
       -- the rows found are the block of the next unit
@@ -146,14 +147,13 @@ module _ (T : Tables) (W S : List ℤ) (sensors s m u ticks first from : ℕ) wh
           sym (ap (λ (n : ℕ). judge run (worst_case run) n k left) z) ∙ h.judged
 
       -- where the next unit does not break, the loop goes on behind its block
-      pub going_more : {size : ℕ} → size ≡ size_of c → unit.number ≤ accepted_number → Going (k + 1) (at + size) span.end unit.left
-      going_more {size} g n =
-          let z : (unit_end run k left).number ≡ accepted_number = omega (arith, ap (λ (x : Ended). x.number) unit-is) in
+      pub going_more : {size : ℕ} {after : List ℕ} → size ≡ size_of c → unit ≡ Ok after → Going (k + 1) (at + size) span.end after
+      going_more {size} {after} g n =
           record {
             in-range = omega arith;
             judged =
-                (λ j. judge run (worst_case run) (u - (k + 1)) (add-one k j) (unit-is j).left)
-                ∙ sym (unit-passed run k left (u - (k + 1)) z)
+                (λ j. judge run (worst_case run) (u - (k + 1)) (add-one k j) after)
+                ∙ sym (unit-passed run k left (u - (k + 1)) (sym n ∙ unit-is))
                 ∙ rest;
             ends =
                 (λ j. h.ends j + g j)
@@ -168,21 +168,22 @@ module _ (T : Tables) (W S : List ℤ) (sensors s m u ticks first from : ℕ) wh
                 ∙ ap (row_before S s counts first from) (sym (add-one k));
           }
 
-      -- where the next unit breaks, so does the round, with its number and its tick
-      pub going-breaks : accepted_number < unit.number
-          → record { number = unit.number; tick = unit.tick; at = 0; row = 0 }
-          ≡ rounded (worst_break run nothing) (block_at counts first u) (row_before S s counts first from u)
+      -- where the next unit breaks, so does the round, with its break
+      pub going-breaks : {x : Broken} → unit ≡ Err x
+          → Err x ≡ rounded (worst_break run nothing) (block_at counts first u) (row_before S s counts first from u)
       going-breaks n =
-          let w = unit-breaks run k left (u - (k + 1)) (omega (arith, n, ap (λ (x : Ended). x.number) unit-is)) in
-          rounded-breaks (worst_break run nothing) _ _ n (ap (λ (x : Ended). x.number) unit-is ∙ w.0 ∙ ap break_number rest)
-          (ap (λ (x : Ended). x.tick) unit-is ∙ w.1 ∙ ap break_tick rest)
+          unit-breaks run k left (u - (k + 1)) (sym n ∙ unit-is) (block_at counts first u) (row_before S s counts first from u)
+          ∙ ap (λ (b : Break). rounded b (block_at counts first u) (row_before S s counts first from u)) rest
 
     -- after the last unit no unit broke, and the round comes to where the walk has come to
     pub going-all : u ≤ k
-        → record { number = accepted_number; tick = 0; at = at; row = row } ≡ rounded (worst_break run nothing) (block_at counts first u) (row_before S s counts first from u)
+        → Ok (record { at = at; row = row }) ≡ rounded (worst_break run nothing) (block_at counts first u) (row_before S s counts first from u)
+    unfolding rounded
     going-all l =
         let z : 0 ≡ u - k = omega arith in
         let y : k ≡ u = omega (arith, h.in-range) in
         let e : judge run (worst_case run) 0 k left ≡ worst_break run nothing = ap (λ (n : ℕ). judge run (worst_case run) n k left) z ∙ h.judged in
-        rounded-whole (worst_break run nothing) (ap break_number e) (h.ends ∙ ap (block_at counts first) y)
-        (h.walked ∙ ap (row_before S s counts first from) y)
+        let f : at ≡ block_at counts first u = h.ends ∙ ap (block_at counts first) y in
+        let g : row ≡ row_before S s counts first from u = h.walked ∙ ap (row_before S s counts first from) y in
+        (λ j. Ok (record { at = f j; row = g j }))
+        ∙ ap (λ (b : Break). rounded b (block_at counts first u) (row_before S s counts first from u)) e

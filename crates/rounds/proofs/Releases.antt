@@ -1,17 +1,16 @@
--- A loop over rows of which those that pass a test name a task: each is released, or one is sought that has not ended.
--- After i rows, what is left from there on comes to what all come to.
-use Prim.Native.Nat.{ℕ, ◌+◌, ◌-◌, ◌≤◌, ◌<◌}
+-- A loop over rows of which those that pass a test name a task that is released: after i rows, what is left from there on comes to what
+-- all come to. And a search among the tasks that such rows name.
+use Prim.Native.Nat.{ℕ, zero, suc, ◌+◌, ◌-◌, ◌<◌}
 use mathlib.Core.Path.{◌≡◌, refl, sym, ap, ◌∙◌}
-use mathlib.Core.Bool.{Bool, true, false, ◌&&◌, ◌||◌}
-use mathlib.Core.List.{List}
+use mathlib.Core.Bool.{Bool, true, false, ◌&&◌, ◌||◌, or_assoc, or-false}
+use mathlib.Core.List.{List, [], ◌∷◌, ◌++◌}
+use native.Mathlib.Numerals.{add-one}
 use native.Mathlib.Omega.{arith}
-use lib.Dec.{leb}
 use lib.ListN.{length, set, length-set}
-use Rattle.theory.specs.Lists.{those}
-use Rattle.theory.proofs.Bools.{clash}
-use Rattle.theory.proofs.Lists.{those-yes, those-no, those-end}
-use Rattle.runs.specs.Tick.{left_of}
-use Rattle.runs.specs.Round.{release, unfinished}
+use Rattle.theory.specs.Lists.{those, some}
+use Rattle.theory.specs.Search.{any}
+use Rattle.theory.proofs.Lists.{those-yes, those-no, those-split}
+use Rattle.runs.specs.Round.{release}
 
 module _ (p : ℕ → Bool) (row : ℕ → ℕ) (n : ℕ) where
   -- before the first row, the rows that are left are all
@@ -23,10 +22,6 @@ module _ (p : ℕ → Bool) (row : ℕ → ℕ) (n : ℕ) where
     pub record Releasing (i : ℕ) (now : List ℕ) : Type 0 where
       pub many : length now ≡ length left
       pub same : release (those p row (n - i) i) time now ≡ release (those p row n 0) time left
-
-    -- before the first row the remaining times are as they were
-    pub releasing-none : Releasing 0 left
-    releasing-none = record { many = refl; same = ap (λ (js : List ℕ). release js time left) all_left }
 
     -- row i passes the test, and its task is released
     pub releasing-one : (i : ℕ) {b : Bool} {t : ℕ} {now next : List ℕ} → i < n → b ≡ p i → b ≡ true → t ≡ row i → next ≡ set now t (time t)
@@ -51,46 +46,24 @@ module _ (p : ℕ → Bool) (row : ℕ → ℕ) (n : ℕ) where
               ∙ h.same;
         }
 
-    -- after the last row the remaining times are those after all releases
-    pub releasing-all : (i : ℕ) {now : List ℕ} → n ≤ i → Releasing i now → now ≡ release (those p row n 0) time left
-    releasing-all i {now} l h = sym (ap (λ (js : List ℕ). release js time now) (those-end p row n i l)) ∙ h.same
+module _ {A : Type 0} (q : A → Bool) where
+  -- some element of two lists joined passes exactly where one of either does
+  some-append : (xs ys : List A) → some q (xs ++ ys) ≡ (some q xs || some q ys)
+  some-append [] ys = refl
+  some-append (x ∷ xs) ys = ap (λ (b : Bool). q x || b) (some-append xs ys) ∙ sym (or_assoc (q x) (some q xs) (some q ys))
 
-  module _ (left : List ℕ) where
-    -- after i rows no task that has not ended was found: it is among those of the rows left exactly where it is among all
-    pub record Seeking (i : ℕ) : Type 0 where
-      pub same : unfinished (those p row (n - i) i) left ≡ unfinished (those p row n 0) left
-
-    -- before the first row none was found
-    pub seeking-none : Seeking 0
-    seeking-none = record { same = ap (λ (js : List ℕ). unfinished js left) all_left }
-
-    -- where row i passes the test, some task from there on has not ended exactly where that of row i has not, or some task after it
-    here : (i : ℕ) (b : Bool) → i < n → p i ≡ true → leb 1 (left_of left (row i)) ≡ b
-        → unfinished (those p row (n - i) i) left ≡ (b || unfinished (those p row (n - (i + 1)) (i + 1)) left)
-    here i b l q f =
-        ap (λ (js : List ℕ). unfinished js left) (those-yes p row n i l q) ∙ ap (λ (b : Bool). b || unfinished (those p row (n - (i + 1)) (i + 1)) left) f
-
-    module _ (i : ℕ) {b : Bool} {t r : ℕ} (h : Seeking i) (l : i < n) (e : b ≡ p i) (f : t ≡ row i) (g : r ≡ left_of left t) where
-      -- what was told of the remaining time of row i's task holds of the row's task
-      time-left : leb 1 (left_of left (row i)) ≡ leb 1 r
-      time-left = sym ((λ j. leb 1 (g j)) ∙ (λ j. leb 1 (left_of left (f j))))
-
-      -- row i passes, and its task has not ended: some task has not
-      pub seeking-found : (b && leb 1 r) ≡ true → true ≡ unfinished (those p row n 0) left
-      seeking-found = go b e
-        where
-          go : (b : Bool) → b ≡ p i → (b && leb 1 r) ≡ true → true ≡ unfinished (those p row n 0) left
-          go true q v = sym (here i true l (sym q) (time-left ∙ v)) ∙ h.same
-          go false q v = clash v refl
-
-      -- row i does not pass, or its task has ended: the search goes on
-      pub seeking-more : (b && leb 1 r) ≡ false → Seeking (i + 1)
-      seeking-more = go b e
-        where
-          go : (b : Bool) → b ≡ p i → (b && leb 1 r) ≡ false → Seeking (i + 1)
-          go true q v = record { same = sym (here i false l (sym q) (time-left ∙ v)) ∙ h.same }
-          go false q v = record { same = sym (ap (λ (js : List ℕ). unfinished js left) (those-no p row n i l (sym q))) ∙ h.same }
-
-    -- after the last row no task that has not ended was found
-    pub seeking-all : (i : ℕ) → n ≤ i → Seeking i → false ≡ unfinished (those p row n 0) left
-    seeking-all i l h = sym (ap (λ (js : List ℕ). unfinished js left) (those-end p row n i l)) ∙ h.same
+  -- of rows that pass one test, some names what passes the other exactly where some row passes both
+  pub any-those : (p : ℕ → Bool) (row : ℕ → A) (n : ℕ) → any (λ i. p i && q (row i)) n ≡ some q (those p row n 0)
+  unfolding any
+  any-those p row zero = refl
+  any-those p row (suc n) =
+      let z : n ≡ 0 + n = omega arith in
+      ap (λ (b : Bool). b || (p n && q (row n))) (any-those p row n)
+      ∙ ap (λ (b : Bool). some q (those p row n 0) || b) (last (p n))
+      ∙ ap (λ (i : ℕ). some q (those p row n 0) || some q (those p row 1 i)) z
+      ∙ sym (some-append (those p row n 0) (those p row 1 (0 + n)))
+      ∙ ap (some q) (sym (those-split p row n 1 0) ∙ ap (λ (m : ℕ). those p row m 0) (add-one n))
+    where
+      last : (b : Bool) → (b && q (row n)) ≡ some q (elim b as (λ b. List A) [ true ↦ row n ∷ [] | false ↦ [] ])
+      last true = sym (or-false (q (row n)))
+      last false = refl

@@ -6,59 +6,50 @@ ghost use Rattle.rounds.specs.Course.{course_in};
 ghost use Rattle.rounds.specs.Breaks.{unit_end};
 
 use crate::own;
-use cells::kinds::Mode;
+use crate::own::Course;
 use cells::limits::Program;
-use cells::refusals;
+use cells::refusals::Refusal;
 use runs::unit;
+use runs::window::Windows;
 
-// What a unit comes to: 14 or 15 with the tick of the round; or 0, and the remaining times after the unit.
-#[derive(Clone, Copy)]
-pub struct Ended {
-    pub number: usize,
+// A break of the run: a task runs outside its windows, or has not ended where it must, at a tick of the round.
+#[derive(Clone, Copy, Debug, PartialEq, Eq)]
+pub struct Broken {
+    pub refusal: Refusal,
     pub tick: usize,
-    pub left: [usize; Program::TASKS],
 }
 
-// Runs unit k of mode m, which has u units of so many ticks, from these remaining times; its block is a part of the schedule.
+// Runs unit k of a course from these remaining times; its block is a part of the schedule. The remaining times after the unit, or its
+// break.
 pub fn one_unit(
-    tasks: &[i32],
-    invocations: &[i32],
-    windows: &[i32],
+    course: Course,
     block: &[i32],
-    supplier: usize,
-    m: Mode,
-    u: usize,
-    ticks: usize,
     k: usize,
     left: [usize; Program::TASKS],
-) -> Ended
-    requires k_lt_u { k < u }
-    requires u_bound { u ≤ suc max_units }
-    requires ticks_le_max_period { ticks ≤ max_period }
-    ensures { result ≡ unit_end (course_in tasks.now invocations.now windows.now supplier
-        m.0 u ticks (λ j. rows_of block.now)) k left }
+) -> Result<[usize; Program::TASKS], Broken>
+    requires k_lt_u { k < course.units }
+    requires u_bound { course.units ≤ suc max_units }
+    requires ticks_le_max_period { course.ticks ≤ max_period }
+    ensures { let c = course.entry in
+        let run = course_in c.tasks.now c.invocations.now c.windows.now c.supplier c.mode.0 c.units c.ticks in
+        result ≡ unit_end (run (λ j. rows_of block.now)) k left }
 {
-    let begun = own::released(tasks, invocations, supplier, m, u, k, left);
-    let end = unit::watch(block, windows, supplier, m, ticks, k * ticks, begun);
-    if end.outside {
-        return Ended {
-            number: refusals::OUTSIDE,
-            tick: end.tick,
-            left: [0; Program::TASKS],
-        };
+    let windows = Windows {
+        rows: course.windows,
+        supplier: course.supplier,
+        mode: course.mode,
+    };
+    let begun = course.released(k, left);
+    let watched = unit::watch(block, windows, course.ticks, k * course.ticks, begun);
+    let rest = watched.map_err(|tick| Broken {
+        refusal: Refusal::Outside,
+        tick,
+    })?;
+    if course.unended(own::next_of(course.units, k), &rest) {
+        return Err(Broken {
+            refusal: Refusal::Late,
+            tick: (k + 1) * course.ticks,
+        });
     }
-    let rest = end.left;
-    let next = own::next_of(u, k);
-    if own::unended(tasks, invocations, supplier, m, u, next, &rest) {
-        return Ended {
-            number: refusals::LATE,
-            tick: (k + 1) * ticks,
-            left: [0; Program::TASKS],
-        };
-    }
-    Ended {
-        number: refusals::ACCEPTED,
-        tick: 0,
-        left: rest,
-    }
+    Ok(rest)
 }

@@ -7,7 +7,7 @@ use native.Mathlib.Nat.{div-add-mod', mul-mod_left, div-le_of_le-mul, mul_comm}
 use native.Mathlib.Omega.{arith}
 use lib.IntN.{ℤ}
 use lib.ListN.{length}
-use denote.Ref.{Bor}
+use Rattle.cells.specs.declared.tables.ProgramTables.{ProgramTables}
 use Rattle.theory.specs.Claim.{Bars}
 use Rattle.theory.proofs.Bools.{says_eq, bars-not, bars-as, bars-says, ◌or◌, bars-lt}
 use Rattle.cells.specs.Cell.{unnamed}
@@ -75,7 +75,7 @@ pub tasks-few : (T : Tables) → Shaped T → task_count T ≤ max_tasks
 tasks-few T s = whole-few task_width max_tasks T.tasks s.tasks
 
 -- the start mode has no part in number 1: tables that have their shape with one have it with any
-pub any-start : (lent : List (Bor (List ℤ))) (start : ℤ) → shape_bad (tables_in lent start) ≡ false → InShape lent
+pub any-start : (lent : ProgramTables) (start : ℤ) → shape_bad (tables_in lent start) ≡ false → InShape lent
 unfolding shape_bad
 any-start lent start e z = e
 

@@ -1,7 +1,7 @@
 -- Number 1: a slice is not whole rows, exceeds its limit, or there is no mode.
 -- Tested on just the slices that a call is lent: a call that is lent more asks more.
 use Rattle.std.specs.Prelude.{ℕ, ◌*◌, ◌/◌, ◌%◌, ◌≤◌, ◌≡◌, Bool, false, not, ◌||◌, List, eqb, ltb, ℤ, length}
-use Rattle.std.specs.Borrow.{Bor}
+use Rattle.cells.specs.declared.tables.ProgramTables.{ProgramTables}
 use Rattle.cells.specs.Limits.{max_ports, max_tasks, max_task_ports, max_drivers, max_copies, max_modes, max_mode_ports, max_invocations}
 use Rattle.cells.specs.Limits.{max_updates, max_switches}
 use Rattle.program.specs.Tables.{Tables, tables_in, port_width, task_width, task_port_width, driver_width, copy_width, mode_width, mode_count}
@@ -50,5 +50,5 @@ pub record Shaped (T : Tables) : Type 0 where
   pub some-mode : 1 ≤ mode_count T
 
 -- the tables that are lent have their shape, whatever the start mode
-abbrev pub InShape : List (Bor (List ℤ)) → Type 0
-InShape slices = (start : ℤ) → shape_bad (tables_in slices start) ≡ false
+abbrev pub InShape : ProgramTables → Type 0
+InShape lent = (start : ℤ) → shape_bad (tables_in lent start) ≡ false

@@ -4,27 +4,33 @@ ghost use Rattle.program.specs.Tables.{Tables, tables_in};
 ghost use Rattle.rules.specs.Fields.{in_range, port_bad, task_bad, task_port_bad, always_fits, interval_fits, driver_bad, copy_bad, mode_bad};
 ghost use Rattle.rules.specs.Fields.{mode_port_bad, invocation_bad, update_bad, switch_bad, start_bad};
 
-use cells::columns::{copy, driver, invocation, mode_port, port, switch, task_port, update};
-use cells::kinds::{Driver, Mode, Port, Task};
+use cells::codes::{GuardKind, PortKind};
+use cells::columns::{copy, invocation, mode_port, switch, task_port, update};
+use cells::kinds::{Driver, Kind, Mode, Port, Task};
 use cells::limits::Program;
-use cells::{drivers, modes, ports, table, tables, tasks};
-use readings::{Reading, at_most, same};
+use cells::tables::ProgramTables;
+use cells::{drivers, modes, ports, table, tasks};
+use readings::Reading;
 
 // The number n is from 1 to the limit.
+#[tactic(auto, unfolding(rules::specs::Fields::in_range))]
 fn in_range(n: usize, limit: usize) -> bool
     ensures { result ≡ in_range n limit }
 {
-    (1 <= n) & (n <= limit)
+    (1..=limit).contains(&n)
 }
 
 // Port p has a kind that there is not.
+#[tactic(auto, unfolding(rules::specs::Fields::port_bad))]
 pub fn port_bad(ports: &[i32], p: Port) -> bool
     ensures { (T : Tables) → T.ports ≡ ports.now → result ≡ port_bad T p.0 }
 {
-    port::PRIVATE < ports::kind(ports, p)
+    // The column may hold the number of no kind, so numbers are compared.
+    usize::from(PortKind::Private) < ports::kind(ports, p)
 }
 
 // Task t has a supplier or a worst-case time out of range.
+#[tactic(auto, unfolding(rules::specs::Fields::task_bad))]
 pub fn task_bad(tasks: &[i32], t: Task) -> bool
     ensures { (T : Tables) → T.tasks ≡ tasks.now → result ≡ task_bad T t.0 }
 {
@@ -34,63 +40,63 @@ pub fn task_bad(tasks: &[i32], t: Task) -> bool
 }
 
 // A row of the task ports names no task or no port.
-pub fn task_port_bad(tables: &[&[i32]; Program::TABLES], row: usize) -> bool
+#[tactic(auto, unfolding(rules::specs::Fields::task_port_bad))]
+pub fn task_port_bad(tables: &ProgramTables, row: usize) -> bool
     ensures { (start : ℤ) → result ≡ task_port_bad (tables_in tables.now start) row }
 {
-    let ports = tables[tables::PORTS];
-    let tasks = tables[tables::TASKS];
-    let task_ports = tables[tables::TASK_PORTS];
-    let t = table::task(task_ports, task_port::WIDTH, row, task_port::TASK);
-    let p = table::port(task_ports, task_port::WIDTH, row, task_port::PORT);
-    !(tasks::declared(tasks, t) & ports::declared(ports, p))
+    let t: Task = table::named(tables.task_ports, task_port::WIDTH, row, task_port::TASK);
+    let p: Port = table::named(tables.task_ports, task_port::WIDTH, row, task_port::PORT);
+    !(tasks::declared(tables.tasks, t) & ports::declared(tables.ports, p))
 }
 
 // Driver d has a guard that always holds, with 0 in its other three fields.
 fn always_fits(drivers: &[i32], d: Driver) -> bool
     ensures { (T : Tables) → T.drivers ≡ drivers.now → result ≡ always_fits T d.0 }
 {
-    let kind = drivers::guard(drivers, d);
     let p = drivers::port(drivers, d);
     let low = drivers::low(drivers, d);
     let high = drivers::high(drivers, d);
-    (kind == driver::ALWAYS) & p.is(Port::of(0)) & same(low, 0) & same(high, 0)
+    drivers::is(drivers, d, GuardKind::Always) & (p == Port::of(0)) & (low == 0) & (high == 0)
 }
 
 // Driver d has a guard by an interval, with a port and low ≤ high, and low is no reading only where high is.
-fn interval_fits(ports: &[i32], drivers: &[i32], d: Driver) -> bool
-    ensures { (T : Tables) → T.ports ≡ ports.now → T.drivers ≡ drivers.now → result ≡ interval_fits T d.0 }
+fn interval_fits(tables: &ProgramTables, d: Driver) -> bool
+    ensures { (start : ℤ) → let T = tables_in tables.now start in
+        result ≡ interval_fits T d.0 }
 {
-    let kind = drivers::guard(drivers, d);
-    let p = drivers::port(drivers, d);
-    let low = drivers::low(drivers, d);
-    let high = drivers::high(drivers, d);
-    (kind == driver::INTERVAL)
-        & ports::declared(ports, p)
-        & at_most(low, high)
+    let p = drivers::port(tables.drivers, d);
+    let low = drivers::low(tables.drivers, d);
+    let high = drivers::high(tables.drivers, d);
+    drivers::is(tables.drivers, d, GuardKind::Interval)
+        & ports::declared(tables.ports, p)
+        & (low <= high)
         & (!Reading(low).is_missing() | Reading(high).is_missing())
 }
 
 // Neither kind of guard fits the row of driver d.
-pub fn driver_bad(ports: &[i32], drivers: &[i32], d: Driver) -> bool
-    ensures { (T : Tables) → T.ports ≡ ports.now → T.drivers ≡ drivers.now → result ≡ driver_bad T d.0 }
+#[tactic(auto, unfolding(rules::specs::Fields::driver_bad))]
+pub fn driver_bad(tables: &ProgramTables, d: Driver) -> bool
+    ensures { (start : ℤ) → let T = tables_in tables.now start in
+        result ≡ driver_bad T d.0 }
 {
-    !(always_fits(drivers, d) | interval_fits(ports, drivers, d))
+    !(always_fits(tables.drivers, d) | interval_fits(tables, d))
 }
 
 // A row of the copies names no driver, or no port as its source or its destination.
-pub fn copy_bad(tables: &[&[i32]; Program::TABLES], row: usize) -> bool
+#[tactic(auto, unfolding(rules::specs::Fields::copy_bad))]
+pub fn copy_bad(tables: &ProgramTables, row: usize) -> bool
     ensures { (start : ℤ) → result ≡ copy_bad (tables_in tables.now start) row }
 {
-    let ports = tables[tables::PORTS];
-    let drivers = tables[tables::DRIVERS];
-    let copies = tables[tables::COPIES];
-    let d = table::driver(copies, copy::WIDTH, row, copy::DRIVER);
-    let from = table::port(copies, copy::WIDTH, row, copy::SOURCE);
-    let to = table::port(copies, copy::WIDTH, row, copy::DESTINATION);
-    !(drivers::declared(drivers, d) & ports::declared(ports, from) & ports::declared(ports, to))
+    let d: Driver = table::named(tables.copies, copy::WIDTH, row, copy::DRIVER);
+    let from: Port = table::named(tables.copies, copy::WIDTH, row, copy::SOURCE);
+    let to: Port = table::named(tables.copies, copy::WIDTH, row, copy::DESTINATION);
+    !(drivers::declared(tables.drivers, d)
+        & ports::declared(tables.ports, from)
+        & ports::declared(tables.ports, to))
 }
 
 // Mode m has a period out of range.
+#[tactic(auto, unfolding(rules::specs::Fields::mode_bad))]
 pub fn mode_bad(modes: &[i32], m: Mode) -> bool
     ensures { (T : Tables) → T.modes ≡ modes.now → result ≡ mode_bad T m.0 }
 {
@@ -98,68 +104,70 @@ pub fn mode_bad(modes: &[i32], m: Mode) -> bool
 }
 
 // A row of the mode ports names no mode or no port.
-pub fn mode_port_bad(tables: &[&[i32]; Program::TABLES], row: usize) -> bool
+#[tactic(auto, unfolding(rules::specs::Fields::mode_port_bad))]
+pub fn mode_port_bad(tables: &ProgramTables, row: usize) -> bool
     ensures { (start : ℤ) → result ≡ mode_port_bad (tables_in tables.now start) row }
 {
-    let ports = tables[tables::PORTS];
-    let modes = tables[tables::MODES];
-    let mode_ports = tables[tables::MODE_PORTS];
-    let m = table::mode(mode_ports, mode_port::WIDTH, row, mode_port::MODE);
-    let p = table::port(mode_ports, mode_port::WIDTH, row, mode_port::PORT);
-    !(modes::declared(modes, m) & ports::declared(ports, p))
+    let m: Mode = table::named(tables.mode_ports, mode_port::WIDTH, row, mode_port::MODE);
+    let p: Port = table::named(tables.mode_ports, mode_port::WIDTH, row, mode_port::PORT);
+    !(modes::declared(tables.modes, m) & ports::declared(tables.ports, p))
 }
 
 // A row of the invocations names no mode, task or driver, or its frequency is out of range.
-pub fn invocation_bad(tables: &[&[i32]; Program::TABLES], row: usize) -> bool
+#[tactic(auto, unfolding(rules::specs::Fields::invocation_bad))]
+pub fn invocation_bad(tables: &ProgramTables, row: usize) -> bool
     ensures { (start : ℤ) → result ≡ invocation_bad (tables_in tables.now start) row }
 {
-    let tasks = tables[tables::TASKS];
-    let drivers = tables[tables::DRIVERS];
-    let modes = tables[tables::MODES];
-    let invocations = tables[tables::INVOCATIONS];
-    let m = table::mode(invocations, invocation::WIDTH, row, invocation::MODE);
-    let frequency = table::field(invocations, invocation::WIDTH, row, invocation::FREQUENCY);
-    let t = table::task(invocations, invocation::WIDTH, row, invocation::TASK);
-    let d = table::driver(invocations, invocation::WIDTH, row, invocation::DRIVER);
-    !(modes::declared(modes, m)
+    let m: Mode = table::named(tables.invocations, invocation::WIDTH, row, invocation::MODE);
+    let frequency = table::field(
+        tables.invocations,
+        invocation::WIDTH,
+        row,
+        invocation::FREQUENCY,
+    );
+    let t: Task = table::named(tables.invocations, invocation::WIDTH, row, invocation::TASK);
+    let d: Driver = table::named(
+        tables.invocations,
+        invocation::WIDTH,
+        row,
+        invocation::DRIVER,
+    );
+    !(modes::declared(tables.modes, m)
         & in_range(frequency, Program::FREQUENCY)
-        & tasks::declared(tasks, t)
-        & drivers::declared(drivers, d))
+        & tasks::declared(tables.tasks, t)
+        & drivers::declared(tables.drivers, d))
 }
 
 // A row of the updates names no mode or driver, or its frequency is out of range.
-pub fn update_bad(tables: &[&[i32]; Program::TABLES], row: usize) -> bool
+#[tactic(auto, unfolding(rules::specs::Fields::update_bad))]
+pub fn update_bad(tables: &ProgramTables, row: usize) -> bool
     ensures { (start : ℤ) → result ≡ update_bad (tables_in tables.now start) row }
 {
-    let drivers = tables[tables::DRIVERS];
-    let modes = tables[tables::MODES];
-    let updates = tables[tables::UPDATES];
-    let m = table::mode(updates, update::WIDTH, row, update::MODE);
-    let frequency = table::field(updates, update::WIDTH, row, update::FREQUENCY);
-    let d = table::driver(updates, update::WIDTH, row, update::DRIVER);
-    !(modes::declared(modes, m)
+    let m: Mode = table::named(tables.updates, update::WIDTH, row, update::MODE);
+    let frequency = table::field(tables.updates, update::WIDTH, row, update::FREQUENCY);
+    let d: Driver = table::named(tables.updates, update::WIDTH, row, update::DRIVER);
+    !(modes::declared(tables.modes, m)
         & in_range(frequency, Program::FREQUENCY)
-        & drivers::declared(drivers, d))
+        & drivers::declared(tables.drivers, d))
 }
 
 // A row of the switches names no mode, target or driver, or its frequency is out of range.
-pub fn switch_bad(tables: &[&[i32]; Program::TABLES], row: usize) -> bool
+#[tactic(auto, unfolding(rules::specs::Fields::switch_bad))]
+pub fn switch_bad(tables: &ProgramTables, row: usize) -> bool
     ensures { (start : ℤ) → result ≡ switch_bad (tables_in tables.now start) row }
 {
-    let drivers = tables[tables::DRIVERS];
-    let modes = tables[tables::MODES];
-    let switches = tables[tables::SWITCHES];
-    let m = table::mode(switches, switch::WIDTH, row, switch::MODE);
-    let frequency = table::field(switches, switch::WIDTH, row, switch::FREQUENCY);
-    let target = table::mode(switches, switch::WIDTH, row, switch::TARGET);
-    let d = table::driver(switches, switch::WIDTH, row, switch::DRIVER);
-    !(modes::declared(modes, m)
+    let m: Mode = table::named(tables.switches, switch::WIDTH, row, switch::MODE);
+    let frequency = table::field(tables.switches, switch::WIDTH, row, switch::FREQUENCY);
+    let target: Mode = table::named(tables.switches, switch::WIDTH, row, switch::TARGET);
+    let d: Driver = table::named(tables.switches, switch::WIDTH, row, switch::DRIVER);
+    !(modes::declared(tables.modes, m)
         & in_range(frequency, Program::FREQUENCY)
-        & modes::declared(modes, target)
-        & drivers::declared(drivers, d))
+        & modes::declared(tables.modes, target)
+        & drivers::declared(tables.drivers, d))
 }
 
 // The start mode of a program is not declared.
+#[tactic(auto, unfolding(rules::specs::Fields::start_bad))]
 pub fn start_bad(modes: &[i32], program: Program) -> bool
     ensures { (T : Tables) → T.modes ≡ modes.now → T.start ≡ program.start → result ≡ start_bad T }
 {

@@ -1,95 +1,82 @@
-// Number 2 over whole tables: the lowest bad row of the table at a place; then all tables, and the start mode, with the place.
-ghost use Rattle.std.specs.Prelude.{◌≡◌, ◌≤◌, ◌<◌, ℤ};
-ghost use Rattle.theory.specs.Search.{first};
+// Number 2 over whole tables: the lowest bad row of the first table that has one; then the start mode.
+ghost use Rattle.std.specs.Prelude.{◌≡◌, ◌<◌, ℕ, ℤ, Bool, [], ◌∷◌};
+ghost use Rattle.theory.specs.Search.{Tests};
+ghost use Rattle.theory.specs.Rows.{testing};
 ghost use Rattle.theory.specs.Verdict.{rows_answer};
 ghost use Rattle.cells.specs.Refusals.{fields_refused};
-ghost use Rattle.program.specs.Tables.{Tables, tables_in, rows_at};
+ghost use Rattle.answers.specs.Answers.{answer_of};
+ghost use Rattle.program.specs.Tables.{tables_in, rows_at};
 ghost use Rattle.rules.specs.Shape.{InShape};
 ghost use Rattle.rules.specs.Fields.{field_tests};
-ghost use Rattle.rules_1_2.specs.Rows.{row_bad, start_tests};
 
 use crate::ranges;
-use cells::kinds::{Driver, Mode, Port, Task};
+use answers::Refused;
+use cells::kinds::{Driver, Kind, Mode, Port, Task};
 use cells::limits::Program;
-use cells::{refusals, tables};
+use cells::refusals::Refusal;
+use cells::tables;
+use cells::tables::ProgramTables;
 use program::rows;
-use theory::Answer;
+use theory::scan;
 
-// A row of the table at a place is bad.
-fn row_bad(tables: &[&[i32]; Program::TABLES], place: usize, row: usize) -> bool
-    requires in_shape { InShape tables.now }
-    requires row_bound { (start : ℤ) → row < rows_at (tables_in tables.now start) place }
-    ensures { (start : ℤ) → result ≡ row_bad (tables_in tables.now start) place row }
+// Refused at the lowest bad row of a table, if it has one.
+fn all_good<F: Fn(usize) -> bool>(
+    tables: &ProgramTables,
+    table: usize,
+    bad: F,
+) -> Result<(), Refused>
+    requires { (start : ℤ) (k : ℕ) → k < rows_at (tables_in tables.now start) table → F.pre bad k }
+    ensures { (start : ℤ) → let n = rows_at (tables_in tables.now start) table in
+        (p : ℕ → Bool) → Tests (F.post bad) n p → answer_of result ≡ rows_answer fields_refused (testing table n p ∷ []) }
 {
-    match place {
-        tables::PORTS => ranges::port_bad(tables[tables::PORTS], Port::of(row)),
-        tables::TASKS => ranges::task_bad(tables[tables::TASKS], Task::of(row)),
-        tables::TASK_PORTS => ranges::task_port_bad(tables, row),
-        tables::DRIVERS => {
-            ranges::driver_bad(
-                tables[tables::PORTS],
-                tables[tables::DRIVERS],
-                Driver::of(row),
-            )
-        }
-        tables::COPIES => ranges::copy_bad(tables, row),
-        tables::MODES => ranges::mode_bad(tables[tables::MODES], Mode::of(row)),
-        tables::MODE_PORTS => ranges::mode_port_bad(tables, row),
-        tables::INVOCATIONS => ranges::invocation_bad(tables, row),
-        tables::UPDATES => ranges::update_bad(tables, row),
-        tables::SWITCHES => ranges::switch_bad(tables, row),
-        _ => false,
-    }
+    let row = scan::first(rows::count(tables, table), bad);
+    answers::refused_at(row, Refusal::Fields, table)
 }
 
-// The lowest bad row among the first n rows of the table at a place; n where none is bad.
-pub fn first_bad(tables: &[&[i32]; Program::TABLES], place: usize, n: usize) -> usize
-    requires in_shape { InShape tables.now }
-    requires n_bound { (start : ℤ) → n ≤ rows_at (tables_in tables.now start) place }
-    ensures { (start : ℤ) → result ≡ first (row_bad (tables_in tables.now start) place) n }
-{
-    let mut row = 0;
-    while row < n {
-        if row_bad(tables, place, row) {
-            return row;
-        }
-        row += 1;
-    }
-    n
-}
-
-// A start mode that is not declared is named after all tables, as row 0 of a place of its own; else it is accepted.
-fn start_answer(modes: &[i32], program: Program) -> Answer
-    ensures { (T : Tables) → T.modes ≡ modes.now → T.start ≡ program.start
-        → result ≡ rows_answer fields_refused (start_tests T) }
-{
-    if ranges::start_bad(modes, program) {
-        return Answer {
-            number: refusals::FIELDS,
-            outer: tables::START,
-            inner: 0,
-        };
-    }
-    answers::accepted()
-}
-
-// Number 2: the lowest row of the first table that has a field out of range or one that names nothing, or the start mode.
-pub fn bad_field(tables: &[&[i32]; Program::TABLES], program: Program) -> Answer
+// Number 2: the lowest row of the first table that has a field out of range or one that names nothing, or the start mode, as row 0 of a
+// place of its own.
+pub fn bad_field(tables: &ProgramTables, program: Program) -> Result<(), Refused>
     requires { InShape tables.now }
-    ensures { result ≡ rows_answer fields_refused (field_tests (tables_in tables.now program.start)) }
+    ensures { answer_of result ≡ rows_answer fields_refused (field_tests (tables_in tables.now program.start)) }
 {
-    let mut place = 0;
-    while place < Program::TABLES {
-        let n = rows::count(tables, place);
-        let row = first_bad(tables, place, n);
-        if row < n {
-            return Answer {
-                number: refusals::FIELDS,
-                outer: place,
-                inner: row,
-            };
-        }
-        place += 1;
-    }
-    start_answer(tables[tables::MODES], program)
+    all_good(
+        tables,
+        tables::PORTS,
+        |p| ranges::port_bad(tables.ports, Port::of(p)),
+    )?;
+    all_good(
+        tables,
+        tables::TASKS,
+        |t| ranges::task_bad(tables.tasks, Task::of(t)),
+    )?;
+    all_good(
+        tables,
+        tables::TASK_PORTS,
+        |k| ranges::task_port_bad(tables, k),
+    )?;
+    all_good(
+        tables,
+        tables::DRIVERS,
+        |d| ranges::driver_bad(tables, Driver::of(d)),
+    )?;
+    all_good(tables, tables::COPIES, |c| ranges::copy_bad(tables, c))?;
+    all_good(
+        tables,
+        tables::MODES,
+        |m| ranges::mode_bad(tables.modes, Mode::of(m)),
+    )?;
+    all_good(
+        tables,
+        tables::MODE_PORTS,
+        |k| ranges::mode_port_bad(tables, k),
+    )?;
+    all_good(
+        tables,
+        tables::INVOCATIONS,
+        |i| ranges::invocation_bad(tables, i),
+    )?;
+    all_good(tables, tables::UPDATES, |i| ranges::update_bad(tables, i))?;
+    all_good(tables, tables::SWITCHES, |i| ranges::switch_bad(tables, i))?;
+    let start = ranges::start_bad(tables.modes, program).then_some(0);
+    answers::refused_at(start, Refusal::Fields, tables::START)
 }

@@ -8,7 +8,8 @@ use native.Mathlib.Omega.{arith}
 use lib.Dec.{leb}
 use lib.IntN.{ℤ}
 use borrow.Author.Tests.{leb-false, le-leb, lt-leb}
-use Rattle.theory.specs.Search.{first}
+use Rattle.std.specs.Prelude.{Option, Some, None, cond}
+use Rattle.theory.specs.Search.{any, first, lowest_passing}
 use Rattle.theory.proofs.Bools.{is_true}
 use Rattle.theory.proofs.Search.{Passed, any_at, first_found, lowest}
 use Rattle.runs.specs.Windows.{window_count, window_to, window_has, in_window, window_end, open_until}
@@ -31,6 +32,23 @@ module _ (W : List ℤ) (s m : ℕ) where
   end-found t i p l h =
       ap (window_to W) (first_found (window_has W s m t) (window_count W) i p l h)
       ∙ end-some t (any_at (window_has W s m t) (window_count W) i l h)
+
+  -- where the window ends that a search of the windows answers with; 0 where it answers with none
+  abbrev pub end_at : Option ℕ → ℕ
+  end_at (Some i) = window_to W i
+  end_at None = 0
+
+  -- the end is that of the row that the search answers with
+  pub end-sought : (t : ℕ) (o : Option ℕ) → o ≡ lowest_passing (window_has W s m t) (window_count W) → end_at o ≡ window_end W s m t
+  unfolding window_end in_window
+  end-sought t o e = ap end_at e ∙ go (any (window_has W s m t) (window_count W))
+    where
+      row : ℕ
+      row = first (window_has W s m t) (window_count W)
+
+      go : (b : Bool) → end_at (cond b (Some row) None) ≡ elim b [ true ↦ window_to W row | false ↦ 0 ]
+      go true = refl
+      go false = refl
 
   -- from tick t on, every tick before `until` is in a window
   abbrev pub Open : ℕ → ℕ → Type 0

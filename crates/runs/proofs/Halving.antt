@@ -20,10 +20,6 @@ module _ (p : ℕ → Bool) (n from : ℕ) where
     pub before : (i : ℕ) → from ≤ i → i < low → p i ≡ false
     pub after : (i : ℕ) → high ≤ i → i < n → p i ≡ true
 
-  -- at first it knows nothing
-  pub halved_none : Halved from n
-  halved_none = record { before = λ i l u. absurd (omega arith); after = λ i l u. absurd (omega arith) }
-
   module _ (low high middle : ℕ) (r : Rising p n) (h : Halved low high) where
     -- a number that passes is the new `high`
     pub halved-down : p middle ≡ true → Halved low middle

@@ -1,7 +1,7 @@
 -- The rows of a slice that is a block: which of them a tick's start passes, row by row, and what runs at a row.
-use Prim.Native.Nat.{ℕ, suc, ◌+◌, ◌≤◌, ◌<◌}
+use Prim.Native.Nat.{ℕ, suc, ◌+◌, ◌≤◌, ◌<◌, max}
 use mathlib.Core.Path.{◌≡◌, refl, sym, ap, ◌∙◌}
-use mathlib.Core.Bool.{Bool, true, false, ◌&&◌, ◌||◌}
+use mathlib.Core.Bool.{Bool, true, false, ◌&&◌}
 use mathlib.Core.List.{List, [], ◌∷◌}
 use native.Mathlib.Numerals.{add-one}
 use native.Mathlib.Omega.{arith}
@@ -9,12 +9,13 @@ use lib.Dec.{eqb, ltb, leb}
 use lib.IntN.{ℤ}
 use lib.ListN.{drop, drop_of_length-le}
 use lib.Seq.{drop-cons}
-use borrow.Author.Tests.{ltb-true, ltb-false}
+use borrow.Author.Tests.{ltb-true, ltb-false, leb-true, leb-false}
 use Rattle.theory.proofs.Lists.{each-length, each_at}
-use Rattle.cells.specs.Cell.{name_of}
+use Rattle.std.specs.Prelude.{Some, None}
+use Rattle.cells.specs.declared.kinds.Task.{Task}
 use Rattle.runs.specs.declared.turn.Turn.{Turn}
-use Rattle.runs.specs.Tick.{dispatch, idle, Row, left_of, nothing_to_do, reached, skipped, passed, rest, work, does, act, moved, turn_of}
-use Rattle.runs.specs.Schedule.{schedule_count, row_kind, row_task, row_timeout, kind_dispatch, row_of, rows_of}
+use Rattle.runs.specs.Tick.{dispatch, idle, Row, skipped, passed, rest, work, does, act, moved, turn_of}
+use Rattle.runs.specs.Schedule.{schedule_count, row_kind, row_task, kind_dispatch, row_of, rows_of}
 
 -- the rows from row i on are row i and the rows behind it
 rows-cons : (B : List ℤ) (i : ℕ) → i < schedule_count B → drop i (rows_of B) ≡ row_of B i ∷ drop (suc i) (rows_of B)
@@ -51,14 +52,19 @@ module _ (B : List ℤ) (elapsed : ℕ) (left : List ℕ) where
       let e : passed (drop i (rows_of B)) elapsed left ≡ 0 = ap (λ (r : List Row). passed r elapsed left) (rows_end B i l) in
       omega arith
 
--- what the code asks of row i is whether it has nothing to do
-pub row-skipped : (B : List ℤ) (elapsed : ℕ) (left : List ℕ) (i : ℕ)
-    → (reached (row_timeout B i) elapsed || (eqb (row_kind B i) kind_dispatch && leb (left_of left (row_task B i)) 0)) ≡ skipped elapsed left (row_of B i)
-row-skipped B elapsed left i = ap (λ b. reached (row_timeout B i) elapsed || b) (go (eqb (row_kind B i) kind_dispatch))
-  where
-    go : (b : Bool) → (b && leb (left_of left (row_task B i)) 0) ≡ nothing_to_do (elim b [ true ↦ dispatch | false ↦ idle ]) (left_of left (row_task B i))
-    go true = refl
-    go false = refl
+  -- a walk from a position that ends at row i behind the last row comes to the last row's end, or stays where it begins behind it
+  pub comes-last : (position i : ℕ) → (position ≤ schedule_count B → i ≤ schedule_count B) → schedule_count B ≤ i
+      → comes B elapsed left i ≡ comes B elapsed left position → max (schedule_count B) position ≡ comes B elapsed left position
+  comes-last position i f l e = go (leb position (schedule_count B)) refl
+    where
+      go : (b : Bool) → leb position (schedule_count B) ≡ b → max (schedule_count B) position ≡ comes B elapsed left position
+      go true h =
+          let w = f (leb-true position (schedule_count B) h) in
+          let q : max (schedule_count B) position ≡ i = omega (arith, leb-true position (schedule_count B) h) in
+          q ∙ comes-end i l ∙ e
+      go false h =
+          let q : max (schedule_count B) position ≡ position = omega (arith, leb-false position (schedule_count B) h) in
+          q ∙ comes-end position (omega (arith, leb-false position (schedule_count B) h))
 
 -- what runs at position i: the task of a dispatch; at an idle, and behind the last row, none
 acts : (B : List ℤ) (i : ℕ) → act (drop i (rows_of B)) ≡ elim (ltb i (schedule_count B) && eqb (row_kind B i) kind_dispatch) [ true ↦ work (row_task B i) | false ↦ rest ]
@@ -73,16 +79,15 @@ acts B i = go (ltb i (schedule_count B)) refl
     go false p = ap act (rows_end B i (ltb-false i (schedule_count B) p))
 
 -- the turn at a dispatch, from the row's kind k and task j
-pub runs-at : (B : List ℤ) (i k j : ℕ) → k ≡ row_kind B i → (ltb i (schedule_count B) && eqb k kind_dispatch) ≡ true → j ≡ row_task B i
-    → turn_of i (work j) ≡ turn_of i (act (drop i (rows_of B)))
+pub runs-at : (B : List ℤ) (i k : ℕ) (j : Task) → k ≡ row_kind B i → (ltb i (schedule_count B) && eqb k kind_dispatch) ≡ true → j.0 ≡ row_task B i
+    → ◌≡◌ {A = Turn} (record { position = i; job = Some j }) (turn_of i (act (drop i (rows_of B))))
 runs-at B i k j e h q =
     let r : act (drop i (rows_of B)) ≡ work (row_task B i) = acts B i ∙ rw (← e, h) in
     ap (λ j. turn_of i (work j)) q ∙ ap (turn_of i) (sym r)
 
--- the turn at a row that is no dispatch, and behind the last row, from the row's kind k and the task j that stands for none
-pub rests-at : (B : List ℤ) (i k j : ℕ) → k ≡ row_kind B i → (ltb i (schedule_count B) && eqb k kind_dispatch) ≡ false → j ≡ name_of 0
-    → ◌≡◌ {A = Turn} (record { position = i; runs = false; job = record { 0 = j } }) (turn_of i (act (drop i (rows_of B))))
-unfolding name_of
-rests-at B i k j e h q =
+-- the turn at a row that is no dispatch, and behind the last row, from the row's kind k
+pub rests-at : (B : List ℤ) (i k : ℕ) → k ≡ row_kind B i → (ltb i (schedule_count B) && eqb k kind_dispatch) ≡ false
+    → ◌≡◌ {A = Turn} (record { position = i; job = None }) (turn_of i (act (drop i (rows_of B))))
+rests-at B i k e h =
     let r : act (drop i (rows_of B)) ≡ rest = acts B i ∙ rw (← e, h) in
-    (λ x. record { position = i; runs = false; job = record { 0 = q x } }) ∙ ap (turn_of i) (sym r)
+    ap (turn_of i) (sym r)

@@ -1,16 +1,17 @@
 -- A loop over the ticks of a unit that hands on turns, and asks a window's end once, comes to what the ticks come to.
-use Prim.Native.Nat.{ℕ, suc, ◌+◌, ◌-◌, ◌≤◌, ◌<◌}
+use Prim.Native.Nat.{ℕ, suc, ◌+◌, ◌-◌, ◌<◌}
 use mathlib.Core.Path.{◌≡◌, sym, ap, subst, ◌∙◌}
 use mathlib.Core.Bool.{Bool, true, false, not, ◌&&◌}
 use mathlib.Core.List.{List}
 use native.Mathlib.Omega.{arith}
 use lib.Dec.{leb}
 use lib.IntN.{ℤ}
+use Rattle.std.specs.Prelude.{is_some}
 use Rattle.runs.specs.declared.turn.Turn.{Turn}
 use Rattle.runs.specs.Tick.{Row, Place, doing, runs_in, tick, turn, after_turn}
 use Rattle.runs.specs.Windows.{in_window, open_until}
-use Rattle.runs.specs.Round.{Ticked, ended, left_at, watched, told_ticks}
-use Rattle.runs.proofs.Turns.{turn-after}
+use Rattle.runs.specs.Round.{Ticked, left_at, watched, told_ticks}
+use Rattle.runs.proofs.Turns.{turn-after, turn-runs}
 use Rattle.runs.proofs.Ends.{Open, Told, until-tells}
 
 -- ticks of which the first is outside the windows come to that tick
@@ -34,29 +35,22 @@ module _ (W : List ℤ) (s m : ℕ) (rows : List Row) (ticks start : ℕ) (left 
     pub same : watched (in_window W s m) rows (ticks - e) e (start + e) (record { position = position; left = rest }) ≡ whole
     pub still : Open W s m (start + e) until
 
-  -- before the first tick, those left are all, and nothing is known to be open
-  pub watch-begun : Watching left 0 0 0
-  watch-begun =
-      let z : ticks - 0 ≡ ticks = omega arith in
-      let q : start + 0 ≡ start = omega arith in
-      record {
-        same = λ i. watched (in_window W s m) rows (z i) 0 (q i) (record { position = 0; left = left });
-        still = λ u l o. absurd (omega arith);
-      }
-
   -- the code's turn t of tick e, with `next` up to which the windows are open
-  module _ (rest : List ℕ) (position until e : ℕ) (t : Turn) (next : ℕ) (l : e < ticks) (h : Watching rest position until e)
-      (is-turn : t ≡ turn rows e (record { position = position; left = rest })) (is-next : next ≡ open_until W s m (start + e) until t.runs) where
+  module _ (rest : List ℕ) (position until e : ℕ) (t : Turn) (running : Bool) (next : ℕ) (l : e < ticks) (h : Watching rest position until e)
+      (is-turn : t ≡ turn rows e (record { position = position; left = rest })) (is-running : running ≡ is_some t.job)
+      (is-next : next ≡ open_until W s m (start + e) until running) where
     here : Place
     here = record { position = position; left = rest }
 
-    told : Told W s m (start + e) t.runs next
-    told = subst (Told W s m (start + e) t.runs) (sym is-next) (until-tells W s m (start + e) until t.runs h.still)
+    told : Told W s m (start + e) running next
+    told = subst (Told W s m (start + e) running) (sym is-next) (until-tells W s m (start + e) until running h.still)
 
     -- the supplier runs outside its windows exactly where the code's test says so
-    outside : (runs_in rows e here && not (in_window W s m (start + e))) ≡ (t.runs && leb next (start + e))
+    outside : (runs_in rows e here && not (in_window W s m (start + e))) ≡ (running && leb next (start + e))
     unfolding here
-    outside = ap (λ (t : Turn). t.runs && not (in_window W s m (start + e))) (sym is-turn) ∙ sym told.outside
+    outside =
+        let r : runs_in rows e here ≡ running = sym (is-running ∙ ap (λ (t : Turn). is_some t.job) is-turn ∙ turn-runs (doing rows e here)) in
+        ap (λ (b : Bool). b && not (in_window W s m (start + e))) r ∙ sym told.outside
 
     one_less : watched (in_window W s m) rows (suc (ticks - (e + 1))) e (start + e) here ≡ whole
     unfolding here
@@ -65,16 +59,16 @@ module _ (W : List ℤ) (s m : ℕ) (rows : List Row) (ticks start : ℕ) (left 
         ap (λ n. watched (in_window W s m) rows n e (start + e) (record { position = position; left = rest })) z ∙ h.same
 
     -- where the supplier runs outside its windows, the answer is this tick
-    pub watch-outside : (t.runs && leb next (start + e)) ≡ true → told_ticks (left_at (start + e)) ≡ told_ticks whole
+    pub watch-outside : (running && leb next (start + e)) ≡ true → told_ticks (left_at (start + e)) ≡ told_ticks whole
     watch-outside o =
         ap told_ticks (sym (watched-out (in_window W s m) rows (ticks - (e + 1)) e (start + e) here (outside ∙ o)) ∙ one_less)
 
     -- where the supplier does not run outside its windows, the loop goes on with the remaining times after the turn
-    pub watch-more : (t.runs && leb next (start + e)) ≡ false → (after : List ℕ) → after ≡ after_turn t rest → Watching after t.position next (e + 1)
+    pub watch-more : (running && leb next (start + e)) ≡ false → (after : List ℕ) → after ≡ after_turn t.job rest → Watching after t.position next (e + 1)
     unfolding here
     watch-more o after is-after =
         let p : t.position ≡ (tick rows e here).position = ap (λ (t : Turn). t.position) is-turn in
-        let r : after ≡ (tick rows e here).left = is-after ∙ ap (λ (t : Turn). after_turn t rest) is-turn ∙ turn-after (tick rows e here).position (doing rows e here) rest in
+        let r : after ≡ (tick rows e here).left = is-after ∙ ap (λ (t : Turn). after_turn t.job rest) is-turn ∙ turn-after (doing rows e here) rest in
         let a : e + 1 ≡ suc e = omega arith in
         let b : start + (e + 1) ≡ suc (start + e) = omega arith in
         let c : ◌≡◌ {A = Ticked} (watched (in_window W s m) rows (ticks - (e + 1)) (e + 1) (start + (e + 1)) (record { position = t.position; left = after }))
@@ -84,9 +78,3 @@ module _ (W : List ℤ) (s m : ℕ) (rows : List Row) (ticks start : ℕ) (left 
           same = c ∙ sym (watched-in (in_window W s m) rows (ticks - (e + 1)) e (start + e) here (outside ∙ o)) ∙ one_less;
           still = λ u l o. told.still u (omega arith) o;
         }
-
-  -- after the last tick, the answer is the remaining times
-  pub watch-ended : (rest : List ℕ) (position until e : ℕ) → ticks ≤ e → Watching rest position until e → told_ticks (ended rest) ≡ told_ticks whole
-  watch-ended rest position until e l h =
-      let z : 0 ≡ ticks - e = omega arith in
-      ap (λ n. told_ticks (watched (in_window W s m) rows n e (start + e) (record { position = position; left = rest }))) z ∙ ap told_ticks h.same

@@ -1,10 +1,9 @@
 -- A unit and a round of one supplier in one mode; the run with given execution times; the worst-case run and its first
 -- break. Starts from any unit and any remaining times. Knows no program.
-use Rattle.std.specs.Prelude.{ℕ, zero, suc, ◌+◌, ◌*◌, ◌≤◌, ◌<◌, ◌≡◌, Bool, true, false, not, ◌&&◌, List, [], ◌∷◌, leb, set, replicate}
+use Rattle.std.specs.Prelude.{ℕ, zero, suc, ◌+◌, ◌*◌, ◌≤◌, ◌<◌, ◌≡◌, Bool, true, false, not, ◌&&◌, List, [], ◌∷◌, leb, set, replicate, Result, Ok, Err}
 use Rattle.theory.specs.Lists.{some, member}
 use Rattle.cells.specs.Limits.{max_tasks}
 use Rattle.runs.specs.Tick.{Row, left_of, Place, runs_in, tick}
-use Rattle.runs.specs.declared.unit.Watched.{Watched}
 
 -- what one supplier does in one mode: ticks of a unit and units of the round; by unit its block, the jobs released at the
 -- unit's start and those whose termination instant is its end; by job the worst-case time; by tick of the round its windows
@@ -85,9 +84,9 @@ abbrev pub nothing : List ℕ
 nothing = replicate max_tasks 0
 
 -- what n ticks of a block come to, as the code hands it on
-abbrev pub told_ticks : Ticked → Watched
-told_ticks (ended left) = record { outside = false; tick = 0; left = left }
-told_ticks (left_at t) = record { outside = true; tick = t; left = nothing }
+abbrev pub told_ticks : Ticked → Result (List ℕ) ℕ
+told_ticks (ended left) = Ok left
+told_ticks (left_at t) = Err t
 
 -- some of these jobs is unfinished, by these remaining times
 abbrev pub unfinished : List ℕ → List ℕ → Bool

@@ -1,6 +1,7 @@
 -- One tick of one supplier's block, after 003. A row is a dispatch of a job or an idle, with a timeout counted from the
 -- block's start; a job is a number, its remaining time stands in a list. Knows no program.
-use Rattle.std.specs.Prelude.{ℕ, suc, ◌+◌, ◌-◌, Bool, true, false, ◌||◌, List, [], ◌∷◌, leb, get_or, set, drop}
+use Rattle.std.specs.Prelude.{ℕ, suc, ◌+◌, ◌-◌, Bool, true, false, ◌||◌, List, [], ◌∷◌, leb, get_or, set, drop, Option, Some, None}
+use Rattle.cells.specs.declared.kinds.Task.{Task}
 use Rattle.runs.specs.declared.turn.Turn.{Turn}
 
 pub data Kind : Type 0 where
@@ -75,17 +76,17 @@ runs_in block elapsed s = runs (doing block elapsed s)
 abbrev pub tick : List Row → ℕ → Place → Place
 tick block elapsed s = record { position = moved block elapsed s; left = left_after (doing block elapsed s) s.left }
 
--- what a tick does, as the code hands it on: the new position, whether a job runs, and which (0 where none does)
-abbrev pub job_of : Act → ℕ
-job_of rest = 0
-job_of (work j) = j
+-- what a tick does, as the code hands it on: the new position, and the job that runs, if one does
+abbrev pub job_of : Act → Option Task
+job_of rest = None
+job_of (work j) = Some (record { 0 = j })
 
 abbrev pub turn_of : ℕ → Act → Turn
-turn_of position a = record { position = position; runs = runs a; job = record { 0 = job_of a } }
+turn_of position a = record { position = position; job = job_of a }
 
 abbrev pub turn : List Row → ℕ → Place → Turn
 turn block elapsed s = turn_of (moved block elapsed s) (doing block elapsed s)
 
--- the remaining times after a turn
-unfoldable pub after_turn : Turn → List ℕ → List ℕ
-after_turn t left = elim t.runs [ true ↦ set left t.job.0 (left_of left t.job.0 - 1) | false ↦ left ]
+-- the remaining times after a turn in which that job runs, or none
+unfoldable pub after_turn : Option Task → List ℕ → List ℕ
+after_turn job left = elim job [ Some j ↦ set left j.0 (left_of left j.0 - 1) | None ↦ left ]

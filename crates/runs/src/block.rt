@@ -6,7 +6,7 @@ ghost use Rattle.runs.specs.Schedule.{schedule_count, Sorted, reaches, reach, fo
 use cells::columns::schedule;
 use cells::{parts, table};
 
-// The rows of a schedule from row `begin` on, before row `end`.
+// The rows of a schedule from row `begin` on, before row `end`. (The library's range is not `Copy`.)
 #[derive(Clone, Copy)]
 pub struct Span {
     pub begin: usize,
@@ -14,12 +14,13 @@ pub struct Span {
 }
 
 // Row i of a schedule does not come before this supplier and address, in the order of supplier, then address.
+#[tactic(auto, unfolding(crate::specs::Schedule::reaches))]
 fn reaches(rows: &[i32], supplier: usize, address: usize, i: usize) -> bool
     ensures { result ≡ reaches rows.now supplier address i }
 {
     let owner = table::field(rows, schedule::WIDTH, i, schedule::SUPPLIER);
     let own = table::field(rows, schedule::WIDTH, i, schedule::ADDRESS);
-    (supplier < owner) | ((owner == supplier) & (address <= own))
+    (supplier, address) <= (owner, own)
 }
 
 // The first row from row `from` on that does not come before this supplier and address, if the rows are sorted; after the last row
@@ -31,6 +32,7 @@ fn reach(rows: &[i32], from: usize, supplier: usize, address: usize) -> usize
 {
     let mut low = from;
     let mut high = rows.len() / schedule::WIDTH;
+    // A loop, since its measure bounds how many rows are asked (`few-halvings`); the library's `partition_point` promises no such number.
     while low < high {
         let middle = low + (high - low) / 2;
         if reaches(rows, supplier, address, middle) {
@@ -51,10 +53,7 @@ pub fn find(rows: &[i32], from: usize, supplier: usize, address: usize) -> Span
 {
     let begin = reach(rows, from, supplier, address);
     let end = reach(rows, begin, supplier, address + 1);
-    Span {
-        begin: begin,
-        end: end,
-    }
+    Span { begin, end }
 }
 
 // The part of a schedule that has the rows of this span.

@@ -4,4 +4,4 @@
 pub mod block;
 pub mod turn;
 pub mod unit;
-mod window;
+pub mod window;

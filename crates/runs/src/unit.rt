@@ -5,55 +5,37 @@ ghost use Rattle.runs.specs.Windows.{in_window};
 ghost use Rattle.runs.specs.Schedule.{rows_of};
 ghost use Rattle.runs.specs.Round.{watched, told_ticks};
 
-use crate::{turn, window};
-use cells::kinds::Mode;
+use crate::turn;
+use crate::window::Windows;
 use cells::limits::Program;
 
-// Whether a task ran outside the windows, and at which tick of the round; if none did, the remaining times at the end.
-#[derive(Clone, Copy)]
-pub struct Watched {
-    pub outside: bool,
-    pub tick: usize,
-    pub left: [usize; Program::TASKS],
-}
-
-// Watches so many ticks of a block from its start, in mode m; `start` ticks of the round have gone by before them.
+// Watches so many ticks of a block from its start; `start` ticks of the round have gone by before them. The remaining times at the end,
+// or the first tick of the round at which a task runs outside the windows.
 pub fn watch(
     block: &[i32],
-    windows: &[i32],
-    supplier: usize,
-    m: Mode,
+    windows: Windows,
     ticks: usize,
     start: usize,
     left: [usize; Program::TASKS],
-) -> Watched
+) -> Result<[usize; Program::TASKS], usize>
     requires { start + ticks ≤ greatest_word }
-    ensures { result ≡ told_ticks (watched (in_window windows.now supplier m.0) (rows_of
+    ensures { result ≡ told_ticks (watched (in_window windows.entry.rows.now windows.entry.supplier windows.entry.mode.0) (rows_of
         block.now) ticks 0 start (record { position = 0; left = left })) }
 {
     let mut rest = left;
     let mut position = 0;
     let mut until = 0;
-    let mut e = 0;
-    while e < ticks {
+    for e in 0..ticks {
         let t = start + e;
         let turn = turn::tick(block, e, rest, position);
-        until = window::open_until(windows, supplier, m, t, until, turn.runs);
-        if turn.runs & (until <= t) {
-            return Watched {
-                outside: true,
-                tick: t,
-                left: [0; Program::TASKS],
-            };
+        let runs = turn.job.is_some();
+        until = windows.open_until(t, until, runs);
+        if runs & (until <= t) {
+            return Err(t);
         }
-        let next = turn::after(turn, rest);
+        let next = turn::after(turn.job, rest);
         rest = next;
         position = turn.position;
-        e += 1;
     }
-    Watched {
-        outside: false,
-        tick: 0,
-        left: rest,
-    }
+    Ok(rest)
 }

@@ -6,10 +6,10 @@ use mathlib.Core.Bool.{Bool, true, false}
 use mathlib.Core.List.{List, [], ◌∷◌, ◌++◌}
 use native.Mathlib.Omega.{arith}
 use lib.IntN.{pos}
-use borrow.Author.Tests.{le-ltb}
 use lib.ListN.{length, drop, get_or, replicate, length-replicate}
 use Rattle.text.specs.Decimal.{newline}
-use Rattle.text.specs.Part.{capped, part_after, signed_of}
+use Rattle.std.specs.Prelude.{Some}
+use Rattle.text.specs.Part.{capped, digits_after, part_after, signed_of}
 use Rattle.theory.specs.Rows.{placeless}
 use Rattle.cells.specs.Refusals.{shape_refused}
 use Rattle.text.specs.Line.{room}
@@ -62,11 +62,11 @@ pub brought-exactly : BroughtExactly
 unfolding brought
 brought-exactly buffer =
     record {
-      failed = λ n. refl;
+      failed = refl;
       ended = let z : min 0 (length buffer) ≡ 0 = omega arith in ap (λ (n : ℕ). piece_of n buffer) z;
       came = λ n some few.
           let z : n ≡ min n (length buffer) = omega arith in
-          brought-bytes (pos n) buffer n (le-ltb n 0 (omega arith)) z ∙ some_bytes n buffer (λ e. omega arith);
+          brought-bytes (Some n) buffer n refl z ∙ some_bytes n buffer (λ e. omega arith);
     }
 
 -- a text of which nothing was read yet is not decided
@@ -157,10 +157,10 @@ too_many_ports : List (List ℕ)
 too_many_ports = (48 ∷ newline ∷ 54 ∷ []) ∷ (53 ∷ newline ∷ []) ∷ []
 
 stops-there : (heard_by zeros (pieces too_many_ports)).more ≡ false
-unfolding too_many_ports zeros after_read fed_of line_end took_of counted_of shape_at is_decided signed_of part_after capped
+unfolding too_many_ports zeros after_read fed_of line_end took_of counted_of shape_at is_decided signed_of part_after digits_after capped
 stops-there = refl
 
 -- the answer to a text with too many ports is 1 whatever follows
 one-there : (more : List ℕ) → shipped (pieces_text too_many_ports ++ more) ≡ answer_line (placeless shape_refused)
-unfolding too_many_ports zeros after_read fed_of line_end took_of counted_of shape_at is_decided is_complete heard signed_of part_after capped shipped
+unfolding too_many_ports zeros after_read fed_of line_end took_of counted_of shape_at is_decided is_complete heard signed_of part_after digits_after capped shipped
 one-there more = ap printed (sym (reads-exactly empty_room zeros.roomy (pieces_text too_many_ports ++ more)) ∙ sym (stopped-heard (fed start_intake empty_room) too_many_ports more stops-there))

@@ -3,33 +3,26 @@ use mathlib.Core.Path.{◌≡◌, refl, sym, ap, ◌∙◌}
 use mathlib.Core.Bool.{Bool, true, false}
 use mathlib.Core.List.{List, [], ◌∷◌, ◌++◌}
 use Prim.Native.Nat.{ℕ, zero, suc}
-use native.Mathlib.Omega.{arith}
-use borrow.Author.Tests.{ltb-true}
-use lib.IntN.{ℤ, pos, negsuc}
-use lib.Signed.{lt_z}
+use lib.IntN.{ℤ}
 use lib.ListN.{length, take}
+use Rattle.std.specs.Prelude.{Option, Some, None, is_some}
 use Rattle.streams.specs.Counts.{clamp_len}
-use Rattle.theory.proofs.Conditions.{cond_yes, cond_no}
 use Rattle.theory.proofs.Bools.{clash}
 use Rattle.intake.specs.Line.{Fed}
 use Rattle.shell.specs.Reading.{Brought, piece, failure, piece_of, brought, Hearing, hearing, after_read, hears, silent, AfterSome}
 
--- a read that answered below 0 has failed
-pub brought-failure : (got : ℤ) (buffer : List ℕ) → lt_z got (pos 0) ≡ true → brought got buffer ≡ failure
+-- a read that has failed brought nothing
+pub brought-failure : (got : Option ℕ) (buffer : List ℕ) → is_some got ≡ false → brought got buffer ≡ failure
 unfolding brought
-brought-failure got buffer e = cond_yes failure (piece_of (clamp_len got (length buffer)) buffer) e
+brought-failure None buffer e = refl
+brought-failure (Some n) buffer e = clash {b = true} refl e
 
--- a read that has failed has brought no byte
-pub failure-none : (got : ℤ) (most : ℕ) → lt_z got (pos 0) ≡ true → clamp_len got most ≡ 0
-failure-none (pos n) most e = absurd (omega (arith, ltb-true n 0 e))
-failure-none (negsuc n) most e = refl
-
--- a read that answered 0 or more has brought so many bytes, as many as the buffer holds
-pub brought-bytes : (got : ℤ) (buffer : List ℕ) (n : ℕ) → lt_z got (pos 0) ≡ false → n ≡ clamp_len got (length buffer)
+-- a read that has not failed has brought so many bytes, as many as the buffer holds
+pub brought-bytes : (got : Option ℕ) (buffer : List ℕ) (n : ℕ) → is_some got ≡ true → n ≡ clamp_len got (length buffer)
     → brought got buffer ≡ piece_of n buffer
 unfolding brought
-brought-bytes got buffer n e h =
-    cond_no failure (piece_of (clamp_len got (length buffer)) buffer) e ∙ ap (λ (k : ℕ). piece_of k buffer) (sym h)
+brought-bytes None buffer n e h = clash {b = false} e refl
+brought-bytes (Some k) buffer n e h = ap (λ (m : ℕ). piece_of m buffer) (sym h)
 
 -- a read of some bytes has brought a piece
 pub some_bytes : (n : ℕ) (buffer : List ℕ) → (n ≡ 0 → ⊥) → piece_of n buffer ≡ piece (take n buffer)

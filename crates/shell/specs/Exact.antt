@@ -1,7 +1,7 @@
 -- What is promised of the shipped program. Outside every contract are two calls, `read` and `write`, and their loops; so it is said of
 -- every sequence of pieces that reads may bring, and of every number of bytes that each write may take: the bytes handed to `write`, in
 -- order, are the text that document 01 gives; and no read is asked for after the text is decided.
-use Rattle.std.specs.Prelude.{ℕ, ◌≤◌, ◌≡◌, true, false, List, [], ◌∷◌, ◌++◌, map, ℤ, pos, negsuc, length, take}
+use Rattle.std.specs.Prelude.{ℕ, ◌≤◌, ◌≡◌, true, false, List, [], ◌∷◌, ◌++◌, map, ℤ, length, take, Some, None}
 use Rattle.theory.specs.Lists.{Every}
 use Rattle.theory.specs.Rows.{placeless}
 use Rattle.cells.specs.Refusals.{shape_refused}
@@ -69,11 +69,11 @@ RanWhole =
     → let a = answer_in tables R.reads in
     taken_of a (page_of a false 0 R.bytes) R.prints.writes.takes ≡ printed (heard (heard_in tables R.reads).fed)
 
--- what a read has brought, by its answer: below 0 it has failed, 0 is the end of the input, else so many bytes of the buffer came
+-- what a read has brought, by its answer: it has failed, 0 is the end of the input, else so many bytes of the buffer came
 pub record ReadSays (buffer : List ℕ) : Type 0 where
-  pub failed : (n : ℕ) → brought (negsuc n) buffer ≡ failure
-  pub ended : brought (pos 0) buffer ≡ end
-  pub came : (n : ℕ) → 1 ≤ n → n ≤ length buffer → brought (pos n) buffer ≡ piece (take n buffer)
+  pub failed : brought None buffer ≡ failure
+  pub ended : brought (Some 0) buffer ≡ end
+  pub came : (n : ℕ) → 1 ≤ n → n ≤ length buffer → brought (Some n) buffer ≡ piece (take n buffer)
 
 -- what a read has brought is told by its answer, whatever stands in the buffer
 abbrev pub BroughtExactly : Type 0

@@ -1,10 +1,12 @@
 -- What reading comes to, whatever reads bring: after each read what is known of the text, and whether the program reads on.
-use Rattle.std.specs.Prelude.{ℕ, zero, suc, ◌≡◌, Bool, true, false, not, cond, List, [], ◌∷◌, ℤ, pos, length, take}
-use Rattle.std.specs.Int.Signed.{lt_z}
+use Rattle.std.specs.Prelude.{ℕ, zero, suc, ◌≡◌, Bool, true, false, not, List, [], ◌∷◌, ℤ, length, take, Option, Some, None}
+use Rattle.std.specs.declared.ops.ControlFlow.{ControlFlow}
+use Rattle.std.specs.declared.ops.ControlFlow.TheVariants.{Continue, Break}
 use Rattle.streams.specs.Counts.{clamp_len}
 use Rattle.intake.specs.Change.{start_intake, as_bad}
 use Rattle.intake.specs.Line.{Fed, fed, is_decided}
 use Rattle.intake.specs.Bytes.{fed_all, ended_of}
+use Rattle.intake.specs.declared.state.Intake.{Intake}
 
 -- what a read brings: a piece of the text, its end, or nothing because it failed
 pub data Brought : Type 0 where
@@ -17,9 +19,10 @@ abbrev pub piece_of : ℕ → List ℕ → Brought
 piece_of zero buffer = end
 piece_of (suc n) buffer = piece (take (suc n) buffer)
 
--- what a read has brought that answered so and left this in the buffer: below 0 it failed
-unfoldable pub brought : ℤ → List ℕ → Brought
-brought got buffer = cond (lt_z got (pos 0)) failure (piece_of (clamp_len got (length buffer)) buffer)
+-- what a read has brought that moved so many bytes, or failed, and left this in the buffer
+unfoldable pub brought : Option ℕ → List ℕ → Brought
+brought None buffer = failure
+brought (Some n) buffer = piece_of (clamp_len (Some n) (length buffer)) buffer
 
 -- what is known of the text, and whether the program reads on
 pub record Hearing : Type 0 where
@@ -29,6 +32,11 @@ pub record Hearing : Type 0 where
 -- what is known of the text and whether the program reads on, put together
 abbrev pub hearing : Fed → Bool → Hearing
 hearing f more = record { fed = f; more = more }
+
+-- what is known of the text, and whether the program reads on, as the code answers it
+abbrev pub heard_as : ControlFlow Intake Intake → List ℤ → Hearing
+heard_as (Continue i) room = hearing (fed i room) true
+heard_as (Break i) room = hearing (fed i room) false
 
 -- what is known after a read: at the end a last line without a line end is a line; a read that fails leaves the text bad
 unfoldable pub after_read : Fed → Brought → Hearing

@@ -1,44 +1,35 @@
-// One read or one write, answered by a number: how many bytes it moved, or a number below 0 where it failed.
+// One read or one write, with how many bytes it moved.
 #![tactic(auto)]
 
 ghost use Rattle.std.specs.Prelude.{◌≡◌, ◌≤◌, length};
+ghost use Rattle.std.specs.Io.KnownBytes.{ReadConsumes, WriteAppends};
 ghost use Rattle.streams.specs.Counts.{clamp_len, Moved};
 
+use std::io;
 use std::io::{Read, Write};
 
-// Reads once into the buffer: how many bytes it put at the buffer's start, 0 at the end of the input; below 0 where the read failed.
-// Nothing is said of the bytes that are in the buffer afterwards.
-pub fn read_some<R: Read>(input: &mut R, buffer: &mut [u8]) -> isize
-    ensures { Moved (length buffer.new) result }
+// Reads once into the buffer: how many bytes it put at the buffer's start, 0 at the end of the input. Of a reader whose bytes are known
+// these are the next ones.
+pub fn read_some<R: Read>(input: &mut R, buffer: &mut [u8]) -> io::Result<usize>
+    ensures count { Moved (length buffer.new) result }
+    ensures bytes { ReadConsumes (R.remaining input.old) (R.remaining input.new) result buffer.new }
 {
-    match input.read(buffer) {
-        Ok(n) => n as isize,
-        Err(_) => -1,
-    }
+    input.read(buffer)
 }
 
-// Writes once from the bytes: how many of them, from the first on, were taken, which may be fewer than all; below 0 where the write
-// failed.
-pub fn write_some<W: Write>(output: &mut W, bytes: &[u8]) -> isize
-    ensures { Moved (length bytes.now) result }
+// Writes once from the bytes: how many of them, from the first on, were taken, which may be fewer than all. A writer whose bytes are
+// known has these behind them.
+pub fn write_some<W: Write>(output: &mut W, bytes: &[u8]) -> io::Result<usize>
+    ensures count { Moved (length bytes.now) result }
+    ensures bytes { WriteAppends (W.contents output.old) (W.contents output.new) result bytes.now }
 {
-    match output.write(bytes) {
-        Ok(n) => n as isize,
-        Err(_) => -1,
-    }
+    output.write(bytes)
 }
 
-// What a read or a write answered, as a number of the buffer's bytes: 0 where it failed, and never more than the buffer has.
-pub fn count(got: isize, buffer: &[u8]) -> usize
+// How many of the buffer's bytes a read or a write has moved: none where it failed, and never more than the buffer has.
+pub fn count(got: Option<usize>, buffer: &[u8]) -> usize
     ensures in_bounds { result ≤ length buffer.now }
     ensures value { result ≡ clamp_len got (length buffer.now) }
 {
-    if got <= 0 {
-        return 0;
-    }
-    let n = got as usize;
-    if buffer.len() < n {
-        return buffer.len();
-    }
-    n
+    got.map_or(0, |n| n.min(buffer.len()))
 }

@@ -1,146 +1,134 @@
 // Number 13: the first row of a part that is wrong by itself, comes before the one above it or is of another supplier; the first row of
 // the joined schedule that is so or past its supplier's last.
-ghost use Rattle.std.specs.Prelude.{◌≡◌, not, ◌||◌, ◌-◌, eqb};
-ghost use Rattle.theory.specs.Search.{first};
+ghost use Rattle.std.specs.Prelude.{◌≡◌, not, ◌||◌, eqb};
+ghost use Rattle.theory.specs.Search.{lowest_passing};
 ghost use Rattle.program.specs.Tables.{Tables};
 ghost use Rattle.layout.specs.Delays.{delays_of};
 ghost use Rattle.runs.specs.Schedule.{schedule_count, row_supplier, row_address, row_timeout};
 ghost use Rattle.suppliers.specs.Schedule.{delay_fits, dispatch_fits, idle_fits, precedes, past_part};
 ghost use Rattle.suppliers.specs.Delays.{row_wrong_by};
 
+use cells::codes::RowKind;
 use cells::columns::schedule;
-use cells::kinds::Task;
+use cells::kinds::{Kind, Task};
 use cells::limits::Program;
 use cells::{table, tasks};
 use layout::delays;
+use theory::scan;
 
-// A `future` stands at the address of row i, and the timeout of row i is within the delay of that `future`.
-fn delay_fits(marks: &[u8], ticks: &[usize], rows: &[i32], i: usize) -> bool
-    ensures { let S = rows.now in
-        result ≡ delay_fits (delays_of marks.now ticks.now) (row_address S i) (row_timeout S i) }
-{
-    let address = table::field(rows, schedule::WIDTH, i, schedule::ADDRESS);
-    let timeout = table::field(rows, schedule::WIDTH, i, schedule::TIMEOUT);
-    let delay = delays::delay(marks, ticks, address);
-    (0 < delay) & (timeout <= delay)
+// The rows of a schedule, with the table of tasks and the delays that they are held against: at each address which mode's `future` stands
+// there, by mode the ticks of a unit.
+#[derive(Clone, Copy)]
+pub struct Schedule<'a> {
+    pub tasks: &'a [i32],
+    pub marks: &'a [u8],
+    pub ticks: &'a [usize],
+    pub rows: &'a [i32],
 }
 
-// Row i is a dispatch of a declared task of the supplier that row i names.
-fn dispatch_fits(tasks: &[i32], rows: &[i32], i: usize) -> bool
-    ensures { (T : Tables) → T.tasks ≡ tasks.now → result ≡ dispatch_fits T rows.now i }
-{
-    let kind = table::field(rows, schedule::WIDTH, i, schedule::KIND);
-    let task = table::task(rows, schedule::WIDTH, i, schedule::TASK);
-    let owner = tasks::owner(tasks, task);
-    let supplier = table::field(rows, schedule::WIDTH, i, schedule::SUPPLIER);
-    (kind == schedule::DISPATCH) & tasks::declared(tasks, task) & (owner == supplier)
-}
-
-// Row i is an idle row and has task 0.
-fn idle_fits(rows: &[i32], i: usize) -> bool
-    ensures { result ≡ idle_fits rows.now i }
-{
-    let kind = table::field(rows, schedule::WIDTH, i, schedule::KIND);
-    let own = table::task(rows, schedule::WIDTH, i, schedule::TASK);
-    (kind == schedule::IDLE) & own.is(Task::of(0))
-}
-
-// Row i comes before row j in the order of supplier, then address.
-fn precedes(rows: &[i32], i: usize, j: usize) -> bool
-    ensures { result ≡ precedes rows.now i j }
-{
-    let supplier = table::field(rows, schedule::WIDTH, i, schedule::SUPPLIER);
-    let address = table::field(rows, schedule::WIDTH, i, schedule::ADDRESS);
-    let other = table::field(rows, schedule::WIDTH, j, schedule::SUPPLIER);
-    let other_address = table::field(rows, schedule::WIDTH, j, schedule::ADDRESS);
-    (supplier < other) | ((supplier == other) & (address < other_address))
-}
-
-// The row above row i; of row 0, row 0 itself.
-fn above(i: usize) -> usize
-    ensures { result ≡ i - 1 }
-{
-    if 0 < i {
-        return i - 1;
+impl Schedule<'_> {
+    // A `future` stands at the address of row i, and the timeout of row i is within the delay of that `future`.
+    #[tactic(auto, unfolding(crate::specs::Schedule::delay_fits))]
+    fn delay_fits(self, i: usize) -> bool
+        ensures { let S = self.entry.rows.now in
+            result ≡ delay_fits (delays_of self.entry.marks.now self.entry.ticks.now) (row_address S i) (row_timeout S i) }
+    {
+        let address = table::field(self.rows, schedule::WIDTH, i, schedule::ADDRESS);
+        let timeout = table::field(self.rows, schedule::WIDTH, i, schedule::TIMEOUT);
+        let delay = delays::delay(self.marks, self.ticks, address);
+        (0 < delay) & (timeout <= delay)
     }
-    0
-}
 
-// Row i breaks number 13: it is wrong by itself, or comes before the row above it.
-fn row_wrong(tasks: &[i32], marks: &[u8], ticks: &[usize], rows: &[i32], i: usize) -> bool
-    ensures { (T : Tables) → T.tasks ≡ tasks.now
-        → result ≡ row_wrong_by T (delays_of marks.now ticks.now) rows.now i }
-{
-    let supplier = table::field(rows, schedule::WIDTH, i, schedule::SUPPLIER);
-    let action = dispatch_fits(tasks, rows, i) | idle_fits(rows, i);
-    let fits = (supplier < Program::SUPPLIERS) & action & delay_fits(marks, ticks, rows, i);
-    !fits | precedes(rows, i, above(i))
-}
+    // Row i is a dispatch of a declared task of the supplier that row i names.
+    #[tactic(auto, unfolding(crate::specs::Schedule::dispatch_fits))]
+    fn dispatch_fits(self, i: usize) -> bool
+        ensures { (T : Tables) → T.tasks ≡ self.entry.tasks.now → result ≡ dispatch_fits T self.entry.rows.now i }
+    {
+        let kind = table::field(self.rows, schedule::WIDTH, i, schedule::KIND);
+        let task: Task = table::named(self.rows, schedule::WIDTH, i, schedule::TASK);
+        let owner = tasks::owner(self.tasks, task);
+        let supplier = table::field(self.rows, schedule::WIDTH, i, schedule::SUPPLIER);
+        (kind == usize::from(RowKind::Dispatch))
+            & tasks::declared(self.tasks, task)
+            & (owner == supplier)
+    }
 
-// Row i of the part of this supplier is refused: it breaks number 13, or is of another supplier.
-fn refused_in_part(
-    tasks: &[i32],
-    marks: &[u8],
-    ticks: &[usize],
-    rows: &[i32],
-    supplier: usize,
-    i: usize,
-) -> bool
-    ensures { (T : Tables) → T.tasks ≡ tasks.now → let S = rows.now in
-        result ≡ (row_wrong_by T (delays_of marks.now ticks.now) S i || not (eqb (row_supplier S i) supplier)) }
-{
-    let own = table::field(rows, schedule::WIDTH, i, schedule::SUPPLIER) == supplier;
-    row_wrong(tasks, marks, ticks, rows, i) | !own
-}
+    // Row i is an idle row and has task 0.
+    #[tactic(auto, unfolding(crate::specs::Schedule::idle_fits, cells::specs::Cell::name_of))]
+    fn idle_fits(self, i: usize) -> bool
+        ensures { result ≡ idle_fits self.entry.rows.now i }
+    {
+        let kind = table::field(self.rows, schedule::WIDTH, i, schedule::KIND);
+        let own: Task = table::named(self.rows, schedule::WIDTH, i, schedule::TASK);
+        (kind == usize::from(RowKind::Idle)) & (own == Task::of(0))
+    }
 
-// The lowest row of the part of this supplier that is refused; the number of rows where none is.
-pub fn first_wrong_in_part(
-    tasks: &[i32],
-    marks: &[u8],
-    ticks: &[usize],
-    rows: &[i32],
-    supplier: usize,
-) -> usize
-    ensures { (T : Tables) → T.tasks ≡ tasks.now → let S = rows.now in
-        let delays = delays_of marks.now ticks.now in
-        result ≡ first (λ i. row_wrong_by T delays S i || not (eqb (row_supplier S i) supplier)) (schedule_count S) }
-{
-    let n = rows.len() / schedule::WIDTH;
-    let mut i = 0;
-    while i < n {
-        if refused_in_part(tasks, marks, ticks, rows, supplier, i) {
-            return i;
+    // Row i comes before row j in the order of supplier, then address.
+    #[tactic(auto, unfolding(crate::specs::Schedule::precedes))]
+    fn precedes(self, i: usize, j: usize) -> bool
+        ensures { result ≡ precedes self.entry.rows.now i j }
+    {
+        let supplier = table::field(self.rows, schedule::WIDTH, i, schedule::SUPPLIER);
+        let address = table::field(self.rows, schedule::WIDTH, i, schedule::ADDRESS);
+        let other = table::field(self.rows, schedule::WIDTH, j, schedule::SUPPLIER);
+        let other_address = table::field(self.rows, schedule::WIDTH, j, schedule::ADDRESS);
+        (supplier, address) < (other, other_address)
+    }
+
+    // Row i breaks number 13: it is wrong by itself, or comes before the row above it (above row 0 stands row 0 itself).
+    #[tactic(auto, unfolding(crate::specs::Delays::row_wrong_by))]
+    fn wrong(self, i: usize) -> bool
+        ensures { let c = self.entry in
+            (T : Tables) → T.tasks ≡ c.tasks.now → result ≡ row_wrong_by T (delays_of c.marks.now c.ticks.now) c.rows.now i }
+    {
+        let supplier = table::field(self.rows, schedule::WIDTH, i, schedule::SUPPLIER);
+        let action = self.dispatch_fits(i) | self.idle_fits(i);
+        let fits = (supplier < Program::SUPPLIERS) & action & self.delay_fits(i);
+        !fits | self.precedes(i, i.saturating_sub(1))
+    }
+
+    // Row i is of this supplier.
+    fn is_of(self, supplier: usize, i: usize) -> bool
+        ensures { result ≡ eqb (row_supplier self.entry.rows.now i) supplier }
+    {
+        table::field(self.rows, schedule::WIDTH, i, schedule::SUPPLIER) == supplier
+    }
+
+    // The lowest row of the part of this supplier that breaks number 13 or is of another supplier, if one is.
+    pub fn first_wrong_in_part(self, supplier: usize) -> Option<usize>
+        ensures { let c = self.entry in
+            (T : Tables) → T.tasks ≡ c.tasks.now → let S = c.rows.now in
+            let delays = delays_of c.marks.now c.ticks.now in
+            result ≡ lowest_passing (λ i. row_wrong_by T delays S i || not (eqb (row_supplier S i) supplier)) (schedule_count S) }
+    {
+        scan::first(
+            self.rows.len() / schedule::WIDTH,
+            |i| self.wrong(i) | !self.is_of(supplier, i),
+        )
+    }
+
+    // Row i has the supplier of the row that stands as many rows above it as a part may have.
+    #[tactic(auto, unfolding(crate::specs::Schedule::past_part))]
+    fn past_part(self, i: usize) -> bool
+        ensures { result ≡ past_part self.entry.rows.now i }
+    {
+        if i < Program::PART {
+            return false;
         }
-        i += 1;
+        let supplier = table::field(self.rows, schedule::WIDTH, i, schedule::SUPPLIER);
+        self.is_of(supplier, i - Program::PART)
     }
-    n
-}
 
-// Row i has the supplier of the row that stands as many rows above it as a part may have.
-fn past_part(rows: &[i32], i: usize) -> bool
-    ensures { result ≡ past_part rows.now i }
-{
-    if i < Program::PART {
-        return false;
+    // The lowest row of the joined schedule that breaks number 13 or is past its supplier's last, if one is.
+    pub fn first_wrong_joined(self) -> Option<usize>
+        ensures { let c = self.entry in
+            (T : Tables) → T.tasks ≡ c.tasks.now → let S = c.rows.now in
+            let delays = delays_of c.marks.now c.ticks.now in
+            result ≡ lowest_passing (λ i. row_wrong_by T delays S i || past_part S i) (schedule_count S) }
+    {
+        scan::first(
+            self.rows.len() / schedule::WIDTH,
+            |i| self.wrong(i) | self.past_part(i),
+        )
     }
-    let supplier = table::field(rows, schedule::WIDTH, i, schedule::SUPPLIER);
-    let other = table::field(rows, schedule::WIDTH, i - Program::PART, schedule::SUPPLIER);
-    other == supplier
-}
-
-// The lowest row of the joined schedule that breaks number 13 or is past its supplier's last; the number of rows where none is.
-pub fn first_wrong_joined(tasks: &[i32], marks: &[u8], ticks: &[usize], rows: &[i32]) -> usize
-    ensures { (T : Tables) → T.tasks ≡ tasks.now → let S = rows.now in
-        let delays = delays_of marks.now ticks.now in
-        result ≡ first (λ i. row_wrong_by T delays S i || past_part S i) (schedule_count S) }
-{
-    let n = rows.len() / schedule::WIDTH;
-    let mut i = 0;
-    while i < n {
-        if row_wrong(tasks, marks, ticks, rows, i) | past_part(rows, i) {
-            return i;
-        }
-        i += 1;
-    }
-    n
 }

@@ -1,7 +1,6 @@
 -- The laws of numbers as text, of the lines and pages of a listing, and of reading it back.
 pub mod Capped
 pub mod Cut
-pub mod Digits
 pub mod LineEnd
 pub mod Signs
 pub mod SignedNumber
@@ -11,7 +10,6 @@ pub mod Lines
 pub mod Said
 pub mod Answers
 pub mod Pages
-pub mod Laying
 pub mod Filling
 pub mod PageEnd
 pub mod Fixed

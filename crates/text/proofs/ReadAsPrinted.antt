@@ -8,7 +8,7 @@ use lib.Dec.{eqb}
 use borrow.Author.Tests.{eqb-true}
 use Rattle.code.specs.Op.{Op}
 use Rattle.text.specs.Decimal.{space, newline}
-use Rattle.text.specs.Listing.{spaced, arguments, line_of, lines_from, listing_text}
+use Rattle.text.specs.Listing.{spaced, line_of, lines_from, listing_text}
 use Rattle.text.specs.ReadBack.{Placed, parts, numeral, numerals, named, op_named, placed_at, read_words, read_inner, read_only}
 use Rattle.text.specs.ReadBack.{read_line, read_next, read_end, read_from, read_listing}
 use Rattle.text.proofs.Inverted.{inner, line-then}

@@ -1,13 +1,14 @@
 -- What is said of an instruction behind its address: argument by argument, how long it is at most, and which numbers say none.
-use Prim.Native.Nat.{ℕ, zero, suc, ◌+◌, ◌≤◌}
-use mathlib.Core.Path.{◌≡◌, refl, sym, ap}
-use mathlib.Core.Bool.{true, false, ◌&&◌}
+use Prim.Native.Nat.{ℕ, zero, suc, ◌+◌, ◌≤◌, ◌<◌, max}
+use mathlib.Core.Path.{◌≡◌, refl, sym, ap, ◌∙◌}
+use mathlib.Core.Bool.{Bool, true, false}
 use mathlib.Core.List.{List, [], ◌∷◌, ◌++◌, append_assoc, append-nil}
 use native.Mathlib.Omega.{arith}
-use lib.ListN.{length, length-append}
+use native.Mathlib.Numerals.{add-one}
+use lib.ListN.{length, take, get_or, length-append}
+use lib.Seq.{take-suc}
 use lib.Dec.{eqb}
-use borrow.Author.Tests.{eq-eqb, ne_eqb}
-use Rattle.theory.proofs.Bools.{says_eq, says-and}
+use borrow.Author.Tests.{eq-eqb, ne_eqb, eqb-true, eqb-false}
 use Rattle.theory.proofs.Conditions.{cond_yes, cond_no}
 use Rattle.code.specs.Op.{Op, call, schedule, branch, jump, future, return, faulty, call_number, schedule_number, if_number, jump_number}
 use Rattle.code.specs.Op.{future_number, return_number, unused, decode}
@@ -25,6 +26,16 @@ spaced-one n = ap (λ (l : List ℕ). space ∷ l) (sym (append-nil (decimal n))
 -- one argument and one more are two arguments
 pub spaced-two : (n m : ℕ) → spaced (n ∷ []) ++ spaced (m ∷ []) ≡ spaced (n ∷ m ∷ [])
 spaced-two n m = ap (λ (l : List ℕ). space ∷ (l ++ spaced (m ∷ []))) (append-nil (decimal n))
+
+-- one argument more behind arguments
+spaced-append : (ns ms : List ℕ) → spaced (ns ++ ms) ≡ spaced ns ++ spaced ms
+spaced-append [] ms = refl
+spaced-append (n ∷ ns) ms =
+    ap (λ (l : List ℕ). space ∷ (decimal n ++ l)) (spaced-append ns ms)
+    ∙ ap (λ (l : List ℕ). space ∷ l) (sym (append_assoc (decimal n) (spaced ns) (spaced ms)))
+
+pub spaced-next : (ns : List ℕ) (i : ℕ) → i < length ns → spaced (take (i + 1) ns) ≡ spaced (take i ns) ++ spaced (get_or ns i 0 ∷ [])
+spaced-next ns i h = ap spaced (rw add-one (take-suc ns i 0 h)) ∙ spaced-append (take i ns) (get_or ns i 0 ∷ [])
 
 -- how long one argument is at most
 pub argument-few : (n : ℕ) → length (spaced (n ∷ [])) ≤ most_argument
@@ -56,13 +67,16 @@ pub said-no : (n : ℕ) (said : List ℕ) → (n ≡ 0 → ⊥) → [] ≡ said_
 unfolding said_where
 said-no n said e = sym (cond_no said [] (ne_eqb n 0 e))
 
--- where both words are 0, so is their sum
-pub both_zero : (a b : ℕ) → (eqb a 0 && eqb b 0) ≡ true → a + b ≡ 0
-both_zero a b e = let h = (says-and (says_eq a 0) (says_eq b 0)).yes e in omega (arith, h.0, h.1)
-
--- where one of two words is not 0, their sum is not
-pub not-both-zero : (a b : ℕ) → (eqb a 0 && eqb b 0) ≡ false → a + b ≡ 0 → ⊥
-not-both-zero a b e z = (says-and (says_eq a 0) (says_eq b 0)).no e (omega arith, omega arith)
+-- two words are 0 where the larger is, as where their sum is
+pub said-both : (a b : ℕ) (said : List ℕ) → said_where (max a b) said ≡ said_where (a + b) said
+said-both a b said = go (eqb (a + b) 0) refl
+  where
+    go : (t : Bool) → eqb (a + b) 0 ≡ t → said_where (max a b) said ≡ said_where (a + b) said
+    go true e =
+        let z = eqb-true (a + b) 0 e in sym (said-yes (max a b) said (omega (arith, z))) ∙ said-yes (a + b) said z
+    go false e =
+        let n = eqb-false (a + b) 0 e in
+        sym (said-no (max a b) said (λ z. n (omega (arith, z)))) ∙ said-no (a + b) said n
 
 -- what is said where the unused word is 0 is what is said of the instruction with that unused word
 pub said-unused : (n : ℕ) (o : Op) → said_where n (mnemonic o ++ spaced (arguments o)) ≡ said_of (unused n o)

@@ -1,7 +1,8 @@
 // The decimal digits of a number, written from the last to the first.
 ghost use Rattle.text.specs.Digits.{Spelled};
 
-// The digits of a number as bytes, at the end of a room of ten: they begin at place `from`.
+// The digits of a number as bytes, at the end of a room of ten: they begin at place `from`. The room is fixed, since there is no heap; and
+// `write!` would print all digits of a usize, where `decimal` has ten at most.
 #[derive(Clone, Copy)]
 pub struct Digits {
     pub bytes: [u8; Digits::MOST],
@@ -17,22 +18,15 @@ impl Digits {
         ensures { Spelled n result }
     {
         let mut bytes = [0u8; Digits::MOST];
-        let mut from = Digits::MOST;
         let mut rest = n;
-        while 0 < from {
-            from -= 1;
+        for from in (0..Digits::MOST).rev() {
+            // A digit always fits a byte.
             bytes[from] = b'0' + (rest % 10) as u8;
             if rest < 10 {
-                return Digits {
-                    bytes: bytes,
-                    from: from,
-                };
+                return Digits { bytes, from };
             }
-            rest = rest / 10;
+            rest /= 10;
         }
-        Digits {
-            bytes: bytes,
-            from: from,
-        }
+        Digits { bytes, from: 0 }
     }
 }

@@ -7,7 +7,7 @@ ghost use Rattle.text.specs.Line.{room, most_argument, Holds, Appended};
 
 use crate::decimal::Digits;
 
-// A line: the first `len` of its bytes are its text.
+// A line: the first `len` of its bytes are its text. The room is fixed, since there is no heap.
 #[derive(Clone, Copy)]
 pub struct Line {
     pub bytes: [u8; Line::ROOM],
@@ -19,6 +19,7 @@ impl Line {
     pub const ROOM: usize = 64;
 
     // The empty line.
+    #[tactic(auto, unfolding(crate::specs::Line::text_of))]
     pub fn new() -> Line
         ensures { Holds result [] }
     {
@@ -29,29 +30,24 @@ impl Line {
     }
 
     // The line with one byte more at its end.
-    pub fn push(self, b: u8) -> Line
+    pub fn push(mut self, b: u8) -> Line
         requires { self.len + 1 ≤ room }
         ensures { Appended self result (b ∷ []) }
     {
-        let mut next = self;
-        let at = self.len;
-        next.bytes[at] = b;
-        next.len = at + 1;
-        next
+        self.bytes[self.len] = b;
+        self.len += 1;
+        self
     }
 
     // The line with these bytes more at its end.
-    pub fn word(self, more: &[u8]) -> Line
+    pub fn word(mut self, more: &[u8]) -> Line
         requires { self.len + length more.now ≤ room }
         ensures { Appended self result more.now }
     {
-        let mut next = self;
-        let mut i = 0;
-        while i < more.len() {
-            next = next.push(more[i]);
-            i += 1;
+        for b in more {
+            self = self.push(*b);
         }
-        next
+        self
     }
 
     // The line with a number more at its end, in decimal digits.

@@ -10,41 +10,25 @@ ghost use Rattle.text.specs.Shipped.{bad_input, larger_listing, has_place, answe
 
 use crate::line::Line;
 use cells::limits::Program;
-use cells::refusals;
-use code::numbers;
+use cells::refusals::Refusal;
+use code::opcode::Opcode;
 use theory::Answer;
 
-// The line with a mnemonic without arguments, where both words are 0; else the line as it was.
-fn none(start: Line, mnemonic: &[u8], first: usize, second: usize) -> Line
+// The line with a mnemonic and its arguments, where the unused word is 0; else the line as it was.
+fn named(start: Line, mnemonic: &[u8], arguments: &[usize], unused: usize) -> Line
     requires mnemonic_len_bound { length mnemonic.now ≤ most_mnemonic }
+    requires arguments_len_bound { length arguments.now ≤ 2 }
     requires most_said_bound { start.len + most_said ≤ room }
-    ensures { Appended start result (said_where (first + second) mnemonic.now) }
+    ensures { Appended start result (said_where unused (mnemonic.now ++ spaced arguments.now)) }
 {
-    if (first == 0) & (second == 0) {
-        return start.word(mnemonic);
+    if unused != 0 {
+        return start;
     }
-    start
-}
-
-// The line with a mnemonic with one argument, where the unused word is 0; else the line as it was.
-fn one(start: Line, mnemonic: &[u8], n: usize, unused: usize) -> Line
-    requires mnemonic_len_bound { length mnemonic.now ≤ most_mnemonic }
-    requires most_said_bound { start.len + most_said ≤ room }
-    ensures { Appended start result (said_where unused (mnemonic.now ++ spaced (n ∷ []))) }
-{
-    if unused == 0 {
-        return start.word(mnemonic).argument(n);
+    let mut line = start.word(mnemonic);
+    for n in arguments {
+        line = line.argument(*n);
     }
-    start
-}
-
-// The line with a mnemonic with two arguments.
-fn two(start: Line, mnemonic: &[u8], n: usize, m: usize) -> Line
-    requires mnemonic_len_bound { length mnemonic.now ≤ most_mnemonic }
-    requires most_said_bound { start.len + most_said ≤ room }
-    ensures { Appended start result (mnemonic.now ++ spaced (n ∷ m ∷ [])) }
-{
-    start.word(mnemonic).argument(n).argument(m)
+    line
 }
 
 // The line with the mnemonic and the arguments of the instruction that three words say; as it was where they say none.
@@ -52,14 +36,14 @@ fn said(start: Line, number: usize, first: usize, second: usize) -> Line
     requires { start.len + most_said ≤ room }
     ensures { Appended start result (said_of (decode number first second)) }
 {
-    match number {
-        numbers::CALL => one(start, b"call", first, second),
-        numbers::SCHEDULE => one(start, b"schedule", first, second),
-        numbers::IF => two(start, b"if", first, second),
-        numbers::JUMP => one(start, b"jump", first, second),
-        numbers::FUTURE => two(start, b"future", first, second),
-        numbers::RETURN => none(start, b"return", first, second),
-        _ => start,
+    match Opcode::try_from(number) {
+        Ok(Opcode::Call) => named(start, b"call", &[first], second),
+        Ok(Opcode::Schedule) => named(start, b"schedule", &[first], second),
+        Ok(Opcode::If) => named(start, b"if", &[first, second], 0),
+        Ok(Opcode::Jump) => named(start, b"jump", &[first], second),
+        Ok(Opcode::Future) => named(start, b"future", &[first, second], 0),
+        Ok(Opcode::Return) => named(start, b"return", &[], first.max(second)),
+        Err(_) => start,
     }
 }
 
@@ -72,21 +56,24 @@ pub fn line(address: usize, number: usize, first: usize, second: usize) -> Line
 }
 
 // Whether a number is one of 2 to 10, which have a place in the tables.
+// The number is what an answer was told, so it is compared as a number.
 fn has_place(number: usize) -> bool
     ensures { result ≡ has_place number }
 {
-    (refusals::FIELDS <= number) & (number <= refusals::WHOLE)
+    let fields = usize::from(Refusal::Fields);
+    let whole = usize::from(Refusal::Whole);
+    (fields <= number) & (number <= whole)
 }
 
 // The line of an answer: its number, and behind a number of 2 to 10 table and row.
 pub fn answer_line(x: Answer) -> Line
     ensures { Holds result (answer_line x) }
 {
-    let start = Line::new().number(x.number);
+    let mut line = Line::new().number(x.number);
     if has_place(x.number) {
-        return start.argument(x.outer).argument(x.inner).push(b'\n');
+        line = line.argument(x.outer).argument(x.inner);
     }
-    start.push(b'\n')
+    line.push(b'\n')
 }
 
 // The line for a text that is no program: `bad input`.
@@ -100,7 +87,7 @@ pub fn bad_line() -> Line
 pub fn larger_lines() -> Line
     ensures { Holds result (answer_line (placeless code_refused) ++ larger_listing) }
 {
-    let number = Line::new().number(refusals::CODE);
+    let number = Line::new().number(usize::from(Refusal::Code));
     let most = number.word(b"\nlisting larger than ").number(Program::HELD);
     most.word(b" instructions\n")
 }

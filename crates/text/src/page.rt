@@ -36,14 +36,9 @@ pub fn lay(out: &mut [u8], at: usize, line: Line) -> usize
     requires len_le_room { line.len ≤ room }
     ensures { Laid out.old out.new at line result }
 {
-    let bytes = line.bytes;
-    let n = line.len;
-    let mut i = 0;
-    while i < n {
-        out[at + i] = bytes[i];
-        i += 1;
-    }
-    at + n
+    let end = at + line.len;
+    out[at..end].copy_from_slice(&line.bytes[..line.len]);
+    end
 }
 
 // The lines of the instructions from number `from` on are laid at the start of a slice, as long as it has room for any line.
@@ -51,20 +46,15 @@ pub fn fill(code: &[u32], from: usize, out: &mut [u8]) -> Page
     ensures { Filled (instructions code.now) from out.old out.new result }
 {
     let count = code.len() / Program::WORDS;
-    let mut next = from;
     let mut len = 0;
-    while next < count {
+    for next in from..count {
         if out.len() - len < Line::ROOM {
-            return Page {
-                next: next,
-                len: len,
-            };
+            return Page { next, len };
         }
         len = lay(out, len, line_at(code, next));
-        next += 1;
     }
     Page {
-        next: next,
-        len: len,
+        next: from.max(count),
+        len,
     }
 }

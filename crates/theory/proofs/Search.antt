@@ -8,7 +8,8 @@ use native.Mathlib.Numerals.{add-one}
 use native.Mathlib.Omega.{arith}
 use lib.Dec.{ltb}
 use borrow.Author.Tests.{ltb-true, ltb-false}
-use Rattle.theory.specs.Search.{any, first_from, first}
+use Rattle.std.specs.Prelude.{Some, None}
+use Rattle.theory.specs.Search.{any, first_from, first, lowest_passing}
 use Rattle.theory.specs.Claim.{Says, Bars}
 use Rattle.theory.proofs.Bools.{clash, neither, bars-and, bars-as}
 
@@ -88,6 +89,14 @@ module _ (p : ℕ → Bool) where
       let z : n - n ≡ 0 = omega arith in
       sym (skip n n (omega arith) (subst (λ (k : ℕ). any p k ≡ false) e h.clear) ∙ ap (λ (k : ℕ). first_from p k n) z)
 
+  -- a search that meets a row that passes answers with it
+  pub lowest-found : (n i : ℕ) → Passed p n i → i < n → p i ≡ true → lowest_passing p n ≡ Some i
+  lowest-found n i h l e = rw (any_at n i l e) (ap Some (sym (first_found n i h l e)))
+
+  -- a search that has passed all rows answers with none
+  pub lowest-none : (n i : ℕ) → Passed p n i → n ≤ i → lowest_passing p n ≡ None
+  lowest-none n i h l = rw (passed-all n i h l) refl
+
   -- row i is the lowest of n rows that passes the test
   pub record Lowest (n i : ℕ) : Type 0 where
     pub below : i < n
@@ -114,6 +123,14 @@ module _ (p : ℕ → Bool) where
   -- the search ends at the count where no row passes
   first-clear : (n : ℕ) → any p n ≡ false → first p n ≡ n
   first-clear n e = sym (first-none n n (record { in-range = omega arith; clear = e }) (omega arith))
+
+  -- where the search ends is the row that it answers with, and the count where it answers with none
+  pub first-lowest_passing : (n : ℕ) → elim (lowest_passing p n) [ Some i ↦ i | None ↦ n ] ≡ first p n
+  first-lowest_passing n = go (any p n) refl
+    where
+      go : (b : Bool) → any p n ≡ b → elim (lowest_passing p n) [ Some i ↦ i | None ↦ n ] ≡ first p n
+      go true e = simp (e) refl
+      go false e = simp (e) (sym (first-clear n e))
 
   -- the search ends at the count at the latest
   pub first-within : (n : ℕ) → first p n ≤ n

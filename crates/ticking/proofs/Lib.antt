@@ -1,5 +1,4 @@
 -- What the code of a tick comes to.
-pub mod Ends
 pub mod Rowwise
 pub mod Assigned
 pub mod Joining

@@ -3,9 +3,7 @@
 use Rattle.std.proofs.Common.{◌≡◌, ℕ, suc, ◌+◌, ◌≤◌, List, length, get_or, set, ℤ, sym, refl, ap, ◌∙◌, subst, ap₂, add-one, arith}
 use Rattle.theory.specs.Lists.{each, filled}
 use Rattle.theory.proofs.Filled.{filled_more, filled-beyond, filled-all}
-use Rattle.cells.specs.Cell.{name_of}
 use Rattle.cells.specs.Limits.{suppliers}
-use Rattle.cells.specs.declared.kinds.Task.{Task}
 use Rattle.runs.specs.declared.block.Span.{Span}
 use Rattle.runs.specs.declared.turn.Turn.{Turn}
 use Rattle.runs.specs.Tick.{Row, turn_of, turn}
@@ -14,10 +12,11 @@ use Rattle.runs.proofs.Blocks.{behind-none, behind-supplier, found-behind}
 use Rattle.runs.proofs.Found.{block-found}
 use Rattle.machine.specs.declared.State.{State}
 use Rattle.machine.specs.declared.Running.{Running}
+use Rattle.machine.specs.declared.Running.TheVariants.{Nobody}
 use Rattle.machine.specs.declared.Shares.{Shares}
 use Rattle.machine.specs.Schedules.{told, who_runs, act_of, moved_of, shares_of}
 use Rattle.ticking.specs.Joined.{join_told}
-use Rattle.ticking.proofs.Joining.{none_told, joined-told}
+use Rattle.ticking.proofs.Joining.{joined-told}
 
 module _ (S : List ℤ) (s : State) where
   -- before supplier j, from row `from` on: the suppliers below j had their turns, and no later supplier's block begins before that row
@@ -27,8 +26,8 @@ module _ (S : List ℤ) (s : State) where
     pub who : running ≡ told (who_runs (act_of S s) j)
 
   -- the walk begins at row 0, before supplier 0
-  pub walk-begun : (t : Task) → t.0 ≡ name_of 0 → Walked s.positions (record { count = 0; job = t }) 0 0
-  walk-begun t e = record { behind = behind-none S 0 s.current; moved = refl; who = none_told 0 t e }
+  pub walk-begun : Walked s.positions Nobody 0 0
+  walk-begun = record { behind = behind-none S 0 s.current; moved = refl; who = refl }
 
   -- supplier j has its turn t on the block that is found
   pub walk_more : (positions : List ℕ) (running : Running) (from j : ℕ) (at : Span) (block : List ℤ) (t : Turn) (next : Running)
@@ -37,7 +36,7 @@ module _ (S : List ℤ) (s : State) where
       → at ≡ found S from j s.current
       → block ≡ span_of S at
       → t ≡ turn (rows_of block) s.elapsed (record { position = get_or positions j 0; left = s.left })
-      → next ≡ join_told running t
+      → next ≡ join_told running t.job
       → Walked positions running from j
       → Walked (set positions j t.position) next at.end (j + 1)
   walk_more positions running from j at block t next o l is_found is_Block is-turn is-joined h = record {
@@ -47,7 +46,7 @@ module _ (S : List ℤ) (s : State) where
     moved = filled_more (moved_of S s) s.positions j positions t.position h.moved (ap (λ (t : Turn). t.position) own_turn);
     who =
         is-joined
-        ∙ joined-told running t (who_runs (act_of S s) j) (moved_of S s j) (act_of S s j) h.who own_turn
+        ∙ joined-told running t.job (who_runs (act_of S s) j) (act_of S s j) h.who (ap (λ (t : Turn). t.job) own_turn)
         ∙ ap (λ (n : ℕ). told (who_runs (act_of S s) n)) (sym (add-one j));
   }
     where

@@ -5,38 +5,26 @@ ghost use Rattle.cells.specs.Limits.{suppliers, max_tasks, max_left};
 ghost use Rattle.runs.specs.Tick.{left_of};
 ghost use Rattle.machine.specs.Advance.{state_out};
 
-use cells::kinds::Task;
+use cells::kinds::{Kind, Task};
 use cells::limits::Program;
 use cells::tasks;
 use machine::State;
+use theory::scan;
 
 // Some task's remaining time exceeds the limit.
 fn some_long(left: [usize; Program::TASKS]) -> bool
     ensures { result ≡ any (λ t. nat_lt max_left (left_of left t)) max_tasks }
 {
-    let end = Task::of(Program::TASKS);
-    let mut t = Task::of(0);
-    while !t.is(end) {
-        if Program::LEFT < tasks::left(&left, t) {
-            return true;
-        }
-        t = t.next();
-    }
-    false
+    scan::any(Program::TASKS, |t| {
+        Program::LEFT < tasks::left(&left, Task::of(t))
+    })
 }
 
 // Some supplier's position is past the rows of the schedule.
 fn some_far(positions: [usize; Program::SUPPLIERS], rows: usize) -> bool
     ensures { result ≡ any (λ j. nat_lt rows (slice_index positions j)) suppliers }
 {
-    let mut j = 0;
-    while j < Program::SUPPLIERS {
-        if rows < positions[j] {
-            return true;
-        }
-        j += 1;
-    }
-    false
+    scan::any(Program::SUPPLIERS, |j| rows < positions[j])
 }
 
 // The state breaks number 21, where the code has so many instructions and the schedule so many rows.

@@ -1,37 +1,33 @@
 // One tick of all suppliers' schedules: who runs, number 18, and the state after the tick.
-ghost use Rattle.std.specs.Prelude.{◌≡◌, ◌≤◌};
+ghost use Rattle.std.specs.Prelude.{◌≡◌, ◌≤◌, ℤ};
 ghost use Rattle.cells.specs.Cell.{greatest_word};
 ghost use Rattle.cells.specs.Limits.{max_elapsed};
-ghost use Rattle.program.specs.Tables.{Tables};
+ghost use Rattle.program.specs.Tables.{tables_in};
 ghost use Rattle.program.specs.Program.{program_of};
 ghost use Rattle.runs.specs.Schedule.{Sorted};
 ghost use Rattle.suppliers.specs.Schedule.{Rows};
 ghost use Rattle.machine.specs.Schedules.{shares_of, tick_passed, tick_all};
 ghost use Rattle.ticking.specs.Joined.{join_told, outputs_by};
 ghost use Rattle.machine.specs.Advance.{answer};
+ghost use Rattle.machine.specs.Told.{advanced_of};
 
 use crate::values;
 use cells::kinds::Task;
 use cells::limits::Program;
-use cells::{refusals, tasks};
-use machine::{Advanced, Running, Shares, State};
-use runs::turn::Turn;
+use cells::refusals::Refusal;
+use cells::tables::ProgramTables;
+use cells::tasks;
+use machine::{Running, Shares, State};
 use runs::{block, turn};
 
-// Who runs in a tick, of the suppliers before and the one that has turn t.
-fn join(before: Running, t: Turn) -> Running
-    ensures { result ≡ join_told before t }
+// Who runs in a tick, of the suppliers before and the one of whose tasks this runs, if one does.
+fn join(before: Running, job: Option<Task>) -> Running
+    ensures { result ≡ join_told before job }
 {
-    if !t.runs {
-        return before;
-    }
-    if before.count == 0 {
-        let job = t.job;
-        return Running { count: 1, job };
-    }
-    Running {
-        count: 2,
-        job: Task::of(0),
+    match (before, job) {
+        (_, None) => before,
+        (Running::Nobody, Some(own)) => Running::One(own),
+        (_, Some(_)) => Running::Several,
     }
 }
 
@@ -42,38 +38,32 @@ fn turns(rows: &[i32], s: State) -> Shares
 {
     let left = s.left;
     let mut positions = s.positions;
-    let mut running = Running {
-        count: 0,
-        job: Task::of(0),
-    };
+    let mut running = Running::Nobody;
     let mut from = 0;
-    let mut j = 0;
-    while j < Program::SUPPLIERS {
+    for j in 0..Program::SUPPLIERS {
         let at = block::find(rows, from, j, s.current);
         let turn = turn::tick(block::rows_at(rows, at), s.elapsed, left, positions[j]);
-        running = join(running, turn);
+        running = join(running, turn.job);
         positions[j] = turn.position;
         from = at.end;
-        j += 1;
     }
     Shares { running, positions }
 }
 
 // The local outputs after a tick of task t, which take its results where it completes.
 fn outputs_after(
-    ports: &[i32],
-    task_ports: &[i32],
+    tables: &ProgramTables,
     results: &[i32],
     s: State,
     t: Task,
 ) -> [i32; Program::PORTS]
-    ensures { (T : Tables) → T.ports ≡ ports.now → T.task_ports ≡ task_ports.now
-        → result ≡ outputs_by T results.now s t.0 }
+    ensures { (start : ℤ) → let T = tables_in tables.now start in
+        result ≡ outputs_by T results.now s t.0 }
 {
     let left = s.left;
     let outputs = s.outputs;
     if tasks::left(&left, t) == 1 {
-        return values::gives_taken(ports, task_ports, t, results, outputs);
+        return values::gives_taken(tables, t, results, outputs);
     }
     outputs
 }
@@ -100,44 +90,26 @@ fn tick_passed(
     next
 }
 
-// One tick of all suppliers: number 18 if two run, or the state after the tick.
+// One tick of all suppliers: the state after it, or the refusal that two run.
 pub fn tick_all(
-    ports: &[i32],
-    task_ports: &[i32],
+    tables: &ProgramTables,
     rows: &[i32],
     results: &[i32],
     s: State,
-) -> Advanced
+) -> Result<State, Refusal>
     requires current_le_greatest_word { s.current ≤ greatest_word }
     requires elapsed_le_max_elapsed { s.elapsed ≤ max_elapsed }
-    ensures { (T : Tables) → T.ports ≡ ports.now → T.task_ports ≡ task_ports.now
-        → Rows T rows.now → result ≡ answer s (tick_all (program_of T) rows.now results.now s) }
+    ensures { (start : ℤ) → let T = tables_in tables.now start in
+        Rows T rows.now → advanced_of s result ≡ answer s (tick_all (program_of T) rows.now results.now s) }
 {
-    let all = turns(rows, s);
-    let running = all.running;
-    if 1 < running.count {
-        return Advanced {
-            number: refusals::COLLISION,
-            state: s,
-        };
-    }
-    let job = running.job;
-    let runs = running.count == 1;
-    let mut outputs = s.outputs;
-    if runs {
-        let next = outputs_after(ports, task_ports, results, s, job);
-        outputs = next;
-    }
-    let turn = Turn {
-        position: 0,
-        runs,
-        job,
-    };
-    let before = s.left;
-    let left = turn::after(turn, before);
-    let positions = all.positions;
-    Advanced {
-        number: refusals::ACCEPTED,
-        state: tick_passed(s, left, outputs, positions),
+    let Shares { running, positions } = turns(rows, s);
+    match running {
+        Running::Nobody => Ok(tick_passed(s, s.left, s.outputs, positions)),
+        Running::One(job) => {
+            let left = turn::after(Some(job), s.left);
+            let outputs = outputs_after(tables, results, s, job);
+            Ok(tick_passed(s, left, outputs, positions))
+        }
+        Running::Several => Err(Refusal::Collision),
     }
 }

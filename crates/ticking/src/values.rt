@@ -1,16 +1,17 @@
 // Port values: what a driver, a task and a sensor's reading put among them. No row copies them.
-ghost use Rattle.std.specs.Prelude.{◌≡◌, ◌==◌, slice_set};
+ghost use Rattle.std.specs.Prelude.{◌≡◌, ◌==◌, slice_set, ℤ};
 ghost use Rattle.theory.specs.Lists.{puts, each};
 ghost use Rattle.cells.specs.Limits.{max_ports};
-ghost use Rattle.program.specs.Tables.{Tables, port_first, copy_driver};
+ghost use Rattle.program.specs.Tables.{tables_in, Tables, port_first, copy_driver};
 ghost use Rattle.program.specs.Sets.{may_give};
 ghost use Rattle.program.specs.Program.{ports_of, driver_row};
 ghost use Rattle.program.specs.Ports.{value_of, assigned, drive};
 ghost use Rattle.ticking.specs.Values.{put_row, copy_put, gives_row, gives_put, copied};
 
 use cells::columns::{copy, task_port};
-use cells::kinds::{Driver, Port, Task};
+use cells::kinds::{Driver, Kind, Port, Task};
 use cells::limits::Program;
+use cells::tables::ProgramTables;
 use cells::{ports, table};
 use program::{guard, members};
 
@@ -19,10 +20,10 @@ fn copy_row(copies: &[i32], d: Driver, old: &[i32], i: usize, new: &mut [i32])
     ensures { (T : Tables) → T.copies ≡ copies.now
         → new.new ≡ put_row (copy_driver T i == d.0) (copy_put T old.now i) new.old }
 {
-    let own = table::driver(copies, copy::WIDTH, i, copy::DRIVER);
-    if own.is(d) {
-        let source = table::port(copies, copy::WIDTH, i, copy::SOURCE);
-        let destination = table::port(copies, copy::WIDTH, i, copy::DESTINATION);
+    let own: Driver = table::named(copies, copy::WIDTH, i, copy::DRIVER);
+    if own == d {
+        let source: Port = table::named(copies, copy::WIDTH, i, copy::SOURCE);
+        let destination: Port = table::named(copies, copy::WIDTH, i, copy::DESTINATION);
         ports::put(new, destination, ports::value(old, source));
     }
 }
@@ -33,66 +34,53 @@ fn copied(copies: &[i32], d: Driver, values: [i32; Program::PORTS]) -> [i32; Pro
 {
     let n = copies.len() / copy::WIDTH;
     let mut next = values;
-    let mut i = 0;
-    while i < n {
+    for i in 0..n {
         copy_row(copies, d, &values, i, &mut next);
-        i += 1;
     }
     next
 }
 
 // The values after driver d, which copies only when its guard holds.
 pub fn driven(
-    drivers: &[i32],
-    copies: &[i32],
+    tables: &ProgramTables,
     d: Driver,
     values: [i32; Program::PORTS],
 ) -> [i32; Program::PORTS]
-    ensures { (T : Tables) → T.drivers ≡ drivers.now → T.copies ≡ copies.now
-        → result ≡ drive (driver_row T d.0) values }
+    ensures { (start : ℤ) → let T = tables_in tables.now start in
+        result ≡ drive (driver_row T d.0) values }
 {
-    if guard::guard_holds(drivers, d, &values) {
-        return copied(copies, d, values);
+    if guard::guard_holds(tables.drivers, d, &values) {
+        return copied(tables.copies, d, values);
     }
     values
 }
 
 // Row k of the task ports, if task t gives its port, puts what that port has among the given values into the values.
-fn gives_row(
-    ports: &[i32],
-    task_ports: &[i32],
-    t: Task,
-    given: &[i32],
-    k: usize,
-    values: &mut [i32],
-)
-    ensures { (T : Tables) → T.ports ≡ ports.now → T.task_ports ≡ task_ports.now
-        → values.new ≡ put_row (gives_row T t.0 k) (gives_put T given.now k) values.old }
+fn gives_row(tables: &ProgramTables, t: Task, given: &[i32], k: usize, values: &mut [i32])
+    ensures { (start : ℤ) → let T = tables_in tables.now start in
+        values.new ≡ put_row (gives_row T t.0 k) (gives_put T given.now k) values.old }
 {
-    let own = table::task(task_ports, task_port::WIDTH, k, task_port::TASK);
-    let p = table::port(task_ports, task_port::WIDTH, k, task_port::PORT);
-    if own.is(t) & members::may_give(ports, p) {
+    let own: Task = table::named(tables.task_ports, task_port::WIDTH, k, task_port::TASK);
+    let p: Port = table::named(tables.task_ports, task_port::WIDTH, k, task_port::PORT);
+    if (own == t) & members::may_give(tables.ports, p) {
         ports::put(values, p, ports::value(given, p));
     }
 }
 
 // The values after each port that task t gives, its outputs and private ports, has taken what it has among the given values.
 pub fn gives_taken(
-    ports: &[i32],
-    task_ports: &[i32],
+    tables: &ProgramTables,
     t: Task,
     given: &[i32],
     values: [i32; Program::PORTS],
 ) -> [i32; Program::PORTS]
-    ensures { (T : Tables) → T.ports ≡ ports.now → T.task_ports ≡ task_ports.now
-        → result ≡ puts (assigned (value_of given.now) (ports_of T (may_give T) t.0)) values }
+    ensures { (start : ℤ) → let T = tables_in tables.now start in
+        result ≡ puts (assigned (value_of given.now) (ports_of T (may_give T) t.0)) values }
 {
-    let n = task_ports.len() / task_port::WIDTH;
+    let n = tables.task_ports.len() / task_port::WIDTH;
     let mut next = values;
-    let mut k = 0;
-    while k < n {
-        gives_row(ports, task_ports, t, given, k, &mut next);
-        k += 1;
+    for k in 0..n {
+        gives_row(tables, t, given, k, &mut next);
     }
     next
 }
@@ -115,11 +103,9 @@ pub fn first_values(ports: &[i32]) -> [i32; Program::PORTS]
     ensures { (T : Tables) → T.ports ≡ ports.now → result ≡ each (port_first T) max_ports 0 }
 {
     let mut values = [0; Program::PORTS];
-    let end = Port::of(Program::PORTS);
-    let mut p = Port::of(0);
-    while !p.is(end) {
+    for k in 0..Program::PORTS {
+        let p = Port::of(k);
         ports::put(&mut values, p, ports::first(ports, p));
-        p = p.next();
     }
     values
 }

@@ -5,7 +5,7 @@
 fn main(rt: HostRuntime) {
     let mut input = rt.stdin();
     let mut output = rt.stdout();
-    if !shell::run(&mut input, &mut output) {
+    if shell::run(&mut input, &mut output).is_err() {
         let _ = rt.eprintln("toporasca: the output was cut short");
     }
 }

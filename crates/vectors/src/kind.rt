@@ -1,40 +1,52 @@
-// The kind of a file: its last path component, up to its first dot.
-ghost use Rattle.std.specs.Prelude.{◌≤◌, length};
+// The kind of a file, by the last component of its path, up to the first dot.
 
-// Where the last component of a path begins.
-fn last(name: &[u8]) -> usize
-    ensures { result ≤ length name.now }
-{
-    let mut from = 0;
-    let mut i = 0;
-    while i < name.len() {
-        let b = name[i];
-        i += 1;
-        if b == b'/' {
-            from = i;
-        }
-    }
-    from
+// What a file holds: what the shipped program reads, or cases of a kind.
+#[derive(Clone, Copy, Debug, PartialEq, Eq)]
+pub enum Kind {
+    Main,
+    Cases(Cases),
 }
 
-// Where the first dot of a name stands; its end where there is none.
-fn dot(name: &[u8]) -> usize
-    ensures { result ≤ length name.now }
-{
-    let mut i = 0;
-    while i < name.len() {
-        if name[i] == b'.' {
-            return i;
-        }
-        i += 1;
-    }
-    name.len()
+#[derive(Clone, Copy, Debug, PartialEq, Eq)]
+pub enum Cases {
+    Verdict,
+    Compile,
+    Windows,
+    Supplier,
+    Fresh,
+    Advance,
+    Run,
+    Long,
 }
 
-// The kind of the file of this path.
-pub fn of(name: &[u8]) -> &[u8] {
-    let from = last(name);
-    let whole = &name[from..];
-    let n = dot(whole);
-    &whole[0..n]
+// The last component of a path.
+fn last(name: &[u8]) -> &[u8] {
+    match name.iter().rposition(|b| *b == b'/') {
+        Some(slash) => &name[slash + 1..],
+        None => name,
+    }
+}
+
+// A name up to its first dot.
+fn stem(name: &[u8]) -> &[u8] {
+    match name.iter().position(|b| *b == b'.') {
+        Some(dot) => &name[..dot],
+        None => name,
+    }
+}
+
+// The kind of the file of this path, if there is such a kind.
+pub fn of(name: &[u8]) -> Option<Kind> {
+    match stem(last(name)) {
+        b"main" => Some(Kind::Main),
+        b"verdict" => Some(Kind::Cases(Cases::Verdict)),
+        b"compile" => Some(Kind::Cases(Cases::Compile)),
+        b"windows" => Some(Kind::Cases(Cases::Windows)),
+        b"supplier" => Some(Kind::Cases(Cases::Supplier)),
+        b"fresh" => Some(Kind::Cases(Cases::Fresh)),
+        b"advance" => Some(Kind::Cases(Cases::Advance)),
+        b"run" => Some(Kind::Cases(Cases::Run)),
+        b"long" => Some(Kind::Cases(Cases::Long)),
+        _ => None,
+    }
 }

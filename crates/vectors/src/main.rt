@@ -8,6 +8,7 @@ mod supplier_cases;
 mod window_cases;
 
 use std::env::FillError;
+use std::io;
 use std::rt::Env;
 
 // How many bytes of a file's name are kept.
@@ -24,9 +25,8 @@ fn count(rt: HostRuntime) -> usize {
     usize::MAX
 }
 
-// Answers all cases of the file that argument i names; false where a write failed. A name that does not fit the buffer is cut to it,
-// and no file has so long a name.
-fn answer(rt: HostRuntime, i: usize) -> bool {
+// Answers all cases of the file that argument i names. A name that does not fit the buffer is cut to it, and no file has so long a name.
+fn answer(rt: HostRuntime, i: usize) -> io::Result<()> {
     let mut name = [0u8; NAME];
     match rt.arg(i, &mut name) {
         Ok(n) => answered::file(rt, &name[..n]),
@@ -34,17 +34,16 @@ fn answer(rt: HostRuntime, i: usize) -> bool {
     }
 }
 
+// Answers the files one after the other; where a write fails, nothing follows.
 fn main(rt: HostRuntime) {
     let n = count(rt);
     if n < 2 {
         let _ = rt.println("usage: vectors FILE..");
         return;
     }
-    let mut i = 1;
-    while i < n {
-        if !answer(rt, i) {
+    for i in 1..n {
+        if answer(rt, i).is_err() {
             return;
         }
-        i += 1;
     }
 }

@@ -1,2 +1,2 @@
--- What the verdict's loop asks, one number after the other.
-pub mod Asked
+-- What is asked one after the other.
+pub mod Parts

@@ -1,2 +1,2 @@
--- A refusal of a list by its number.
-pub mod Asked
+-- The refusals of tables in two parts.
+pub mod Parts

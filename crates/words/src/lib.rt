@@ -1,81 +1,84 @@
-// One instruction of E code, written into a lent slice: from its three words, and from what it names.
+// One instruction of E code: from what it names, and written into a lent slice.
 #![tactic(auto)]
 
 ghost use Rattle.std.specs.Prelude.{◌≡◌, [], ◌∷◌, ◌≤◌};
 ghost use Rattle.cells.specs.Cell.{greatest_word};
 ghost use Rattle.code.specs.Op.{schedule, branch};
+ghost use Rattle.code.specs.Opcodes.{opcode_number};
 ghost use Rattle.code.specs.Listing.{call_driver, call_output, call_sensor};
-ghost use Rattle.words.specs.Written.{instruction, three, written, writes};
+ghost use Rattle.words.specs.Written.{instruction, words_in, three, written, writes};
 
-use cells::kinds::{Driver, Port, Task};
+use cells::kinds::{Driver, Kind, Port, Task};
 use cells::limits::Program;
 use cells::table;
-use code::numbers;
+use code::opcode::Opcode;
 
-// An instruction is written at an address; past the end of the slice nothing is. The next address is returned.
-pub fn instruction(code: &mut [u32], at: usize, number: usize, first: usize, second: usize) -> usize
-    requires at_le_greatest_word { at ≤ greatest_word }
-    requires number_le_greatest_word { number ≤ greatest_word }
-    requires first_le_greatest_word { first ≤ greatest_word }
-    requires second_le_greatest_word { second ≤ greatest_word }
-    ensures { written code.new result ≡ writes (instruction number first second ∷ []) (written code.old at) }
-{
-    let place = at * Program::WORDS;
-    table::put(code, place, number);
-    table::put(code, place + 1, first);
-    table::put(code, place + 2, second);
-    at + 1
+// An instruction: what it does, and its other two words.
+#[derive(Clone, Copy)]
+pub struct Instruction {
+    opcode: Opcode,
+    first: u32,
+    second: u32,
 }
 
-// The call that copies the outputs of task t is written at an address. The next address is returned.
-pub fn output_call(code: &mut [u32], at: usize, t: Task) -> usize
-    requires { at ≤ greatest_word }
-    ensures { written code.new result ≡ writes (three (call_output t.0) ∷ []) (written code.old at) }
-{
-    instruction(
-        code,
-        at,
-        numbers::CALL,
-        Program::OUTPUT_CALL + t.word() as usize,
-        0,
-    )
-}
+impl Instruction {
+    // An instruction from its three words; those that it does not use are 0.
+    pub fn new(opcode: Opcode, first: u32, second: u32) -> Instruction
+        ensures { words_in result ≡ instruction (opcode_number opcode) first second }
+    {
+        Instruction {
+            opcode,
+            first,
+            second,
+        }
+    }
 
-// The call of driver d is written at an address. The next address is returned.
-pub fn driver_call(code: &mut [u32], at: usize, d: Driver) -> usize
-    requires { at ≤ greatest_word }
-    ensures { written code.new result ≡ writes (three (call_driver d.0) ∷ []) (written code.old at) }
-{
-    instruction(code, at, numbers::CALL, d.word() as usize, 0)
-}
+    // The call that copies the outputs of task t.
+    pub fn output_call(t: Task) -> Instruction
+        ensures { words_in result ≡ three (call_output t.0) }
+    {
+        // The limits of 01 fit a word, as addresses and opcodes below do.
+        Instruction::new(Opcode::Call, Program::OUTPUT_CALL as u32 + t.word(), 0)
+    }
 
-// The call that reads sensor p is written at an address. The next address is returned.
-pub fn sensor_call(code: &mut [u32], at: usize, p: Port) -> usize
-    requires { at ≤ greatest_word }
-    ensures { written code.new result ≡ writes (three (call_sensor p.0) ∷ []) (written code.old at) }
-{
-    instruction(
-        code,
-        at,
-        numbers::CALL,
-        Program::SENSOR_CALL + p.word() as usize,
-        0,
-    )
-}
+    // The call of driver d.
+    pub fn driver_call(d: Driver) -> Instruction
+        ensures { words_in result ≡ three (call_driver d.0) }
+    {
+        Instruction::new(Opcode::Call, d.word(), 0)
+    }
 
-// The schedule of task t is written at an address. The next address is returned.
-pub fn schedule(code: &mut [u32], at: usize, t: Task) -> usize
-    requires { at ≤ greatest_word }
-    ensures { written code.new result ≡ writes (three (schedule t.0) ∷ []) (written code.old at) }
-{
-    instruction(code, at, numbers::SCHEDULE, t.word() as usize, 0)
-}
+    // The call that reads sensor p.
+    pub fn sensor_call(p: Port) -> Instruction
+        ensures { words_in result ≡ three (call_sensor p.0) }
+    {
+        Instruction::new(Opcode::Call, Program::SENSOR_CALL as u32 + p.word(), 0)
+    }
 
-// The test of driver d, which goes to a stub, is written at an address: `if driver stub`. The next address is returned.
-pub fn test(code: &mut [u32], at: usize, d: Driver, stub: usize) -> usize
-    requires at_le_greatest_word { at ≤ greatest_word }
-    requires stub_le_greatest_word { stub ≤ greatest_word }
-    ensures { written code.new result ≡ writes (three (branch d.0 stub) ∷ []) (written code.old at) }
-{
-    instruction(code, at, numbers::IF, d.word() as usize, stub)
+    // The schedule of task t.
+    pub fn schedule(t: Task) -> Instruction
+        ensures { words_in result ≡ three (schedule t.0) }
+    {
+        Instruction::new(Opcode::Schedule, t.word(), 0)
+    }
+
+    // The test of driver d, which goes to a stub: `if driver stub`.
+    pub fn test(d: Driver, stub: usize) -> Instruction
+        requires { stub ≤ greatest_word }
+        ensures { words_in result ≡ three (branch d.0 stub) }
+    {
+        Instruction::new(Opcode::If, d.word(), stub as u32)
+    }
+
+    // The instruction is written at an address; past the end of the slice nothing is. The next address is returned.
+    pub fn write(self, code: &mut [u32], at: usize) -> usize
+        requires { at ≤ greatest_word }
+        ensures { written code.new result ≡ writes (words_in self ∷ []) (written code.old at) }
+    {
+        let place = at * Program::WORDS;
+        table::put(code, place, usize::from(self.opcode) as u32);
+        table::put(code, place + 1, self.first);
+        table::put(code, place + 2, self.second);
+        at + 1
+    }
 }

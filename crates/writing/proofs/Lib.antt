@@ -1,5 +1,4 @@
 -- What the code that writes a block comes to.
-pub mod Left
-pub mod Forms
+pub mod Passing
 pub mod Tests
 pub mod Parts

@@ -1,19 +1,20 @@
--- What is left to write of the tests and of the stubs of due switches, as a loop over their rows goes on.
-use Prim.Native.Nat.{ℕ, suc, ◌+◌, ◌-◌, ◌*◌, ◌≤◌, ◌<◌}
-use mathlib.Core.Path.{◌≡◌, refl, ap, ◌∙◌}
+-- What a loop over the rows of the switches has written of the tests and of the stubs of those that are due.
+use Prim.Native.Nat.{ℕ, suc, ◌+◌, ◌-◌, ◌*◌, ◌≤◌}
+use mathlib.Core.Path.{◌≡◌, refl, sym, ap, ◌∙◌}
 use mathlib.Core.Bool.{Bool}
 use mathlib.Core.List.{List, [], ◌∷◌, ◌++◌, map, map-append}
 use native.Mathlib.Omega.{arith}
 use lib.ListN.{length, get_or, length-map}
 use Rattle.theory.specs.Lists.{those}
-use Rattle.theory.proofs.Lists.{those-end, those-few}
+use Rattle.theory.proofs.Lists.{those-few}
 use Rattle.program.specs.Program.{Switch}
 use Rattle.code.specs.Op.{Op, branch, jump}
 use Rattle.code.specs.Listing.{call_driver, tests_of}
 use Rattle.code.proofs.Length.{tests-length}
-use Rattle.words.specs.Written.{Words, three}
+use Rattle.words.specs.Written.{Words, three, Written, writes}
+use Rattle.words.proofs.Written.{writes_then, written_at}
 use Rattle.writing.specs.Switches.{stubs_in}
-use Rattle.writing.proofs.Left.{those-all, those-next}
+use Rattle.writing.proofs.Passing.{those-more}
 
 -- the tests of two lists of switches are those of the first and then those of the second, whose stubs stand behind
 tests-append : (a b : List Switch) (s : ℕ) → tests_of (a ++ b) s ≡ tests_of a s ++ tests_of b (s + 2 * length a)
@@ -33,77 +34,68 @@ pub stubs-count : (entries : List ℕ) (ws : List Switch) → length (stubs_in e
 stubs-count entries [] = refl
 stubs-count entries (w ∷ ws) = omega (arith, stubs-count entries ws)
 
-module _ (p : ℕ → Bool) (row : ℕ → Switch) (n : ℕ) where
-  -- the tests of the rows from row i on; the first test stands at `from`, and its stub at `stub`
-  abbrev pub tests_left : ℕ → ℕ → ℕ → ℕ → List Words
-  tests_left stub from i a = map three (tests_of (those p row (n - i) i) (stub + 2 * (a - from)))
+-- after k rows the loop is at `here`: it has written the tests of those that passed
+pub record Tested (p : ℕ → Bool) (row : ℕ → Switch) (stub k : ℕ) (start here : Written) : Type 0 where
+  pub same : here ≡ writes (map three (tests_of (those p row k 0) stub)) start
 
-  module _ (stub from : ℕ) where
-    -- before the first row all tests are left
-    pub tests-all : tests_left stub from 0 from ≡ map three (tests_of (those p row n 0) stub)
-    tests-all =
-        let z : stub + 2 * (from - from) ≡ stub = omega arith in
-        ap (λ (ws : List Switch). map three (tests_of ws (stub + 2 * (from - from)))) (those-all p row n)
-        ∙ ap (λ (s : ℕ). map three (tests_of (those p row n 0) s)) z
+module _ {p : ℕ → Bool} {row : ℕ → Switch} {stub k : ℕ} {start here : Written} (h : Tested p row stub k start here) where
+  -- a test was written for each row that passed
+  pub tests-at : here.at ≡ start.at + length (those p row k 0)
+  tests-at =
+      let ws = those p row k 0 in
+      omega (arith, written_at start (map three (tests_of ws stub)) h.same, length-map (tests_of ws stub) three, tests-length ws stub)
 
-    -- no more tests are left than there are rows
-    pub tests-few : (i a : ℕ) → length (tests_left stub from i a) ≤ n
-    tests-few i a =
-        omega (
-          arith,
-          length-map (tests_of (those p row (n - i) i) (stub + 2 * (a - from))) three,
-          tests-length (those p row (n - i) i) (stub + 2 * (a - from)),
-          those-few p row (n - i) i,
-        )
+  -- no more tests were written than there are rows
+  pub tests-near : here.at ≤ start.at + k
+  tests-near = omega (arith, tests-at, those-few p row k 0)
 
-    -- the tests that are left are that of this row and the rest
-    pub tests-next : (i a : ℕ) → i < n → from ≤ a
-        → tests_left stub from i a
-        ≡ map three (tests_of (those p row 1 i) (stub + 2 * (a - from)))
-        ++ tests_left stub from (i + 1) (a + length (map three (tests_of (those p row 1 i) (stub + 2 * (a - from)))))
-    tests-next i a l h =
-        let s = stub + 2 * (a - from) in
-        let here = those p row 1 i in
-        let rest = those p row (n - (i + 1)) (i + 1) in
-        let many = length (map three (tests_of here s)) in
-        let z : s + 2 * length here ≡ stub + 2 * (a + many - from) = omega (arith, length-map (tests_of here s) three, tests-length here s) in
-        ap (λ (ws : List Switch). map three (tests_of ws s)) (those-next p row n i l)
-        ∙ ap (map three) (tests-append here rest s)
-        ∙ map-append three (tests_of here s) (tests_of rest (s + 2 * length here))
-        ∙ ap (λ (k : ℕ). map three (tests_of here s) ++ map three (tests_of rest k)) z
+  -- the test of one row more is written, if it passes; its stub stands behind those of the tests before it
+  pub tests-more : {there : Written} → there ≡ writes (map three (tests_of (those p row 1 k) (stub + 2 * (here.at - start.at)))) here
+      → Tested p row stub (k + 1) start there
+  tests-more e =
+      let ws = those p row k 0 in
+      let one = those p row 1 k in
+      let z : stub + 2 * (here.at - start.at) ≡ stub + 2 * length ws = omega (arith, tests-at) in
+      let more =
+      ap (λ (s : ℕ). map three (tests_of ws stub) ++ map three (tests_of one s)) z
+      ∙ sym (map-append three (tests_of ws stub) (tests_of one (stub + 2 * length ws)))
+      ∙ ap (map three) (sym (tests-append ws one stub))
+      ∙ ap (λ (l : List Switch). map three (tests_of l stub)) (sym (those-more p row k)) in
+      record {
+        same =
+            writes_then start (map three (tests_of ws stub)) (map three (tests_of one (stub + 2 * (here.at - start.at)))) h.same e
+            ∙ ap (λ (l : List Words). writes l start) more;
+      }
 
-    -- behind the last row no test is left
-    pub tests-end : (i a : ℕ) → n ≤ i → tests_left stub from i a ≡ []
-    tests-end i a l = ap (λ (ws : List Switch). map three (tests_of ws (stub + 2 * (a - from)))) (those-end p row n i l)
+-- after k rows the loop is at `here`: it has written the stubs of those that passed
+pub record Stubbed (p : ℕ → Bool) (row : ℕ → Switch) (entries : List ℕ) (k : ℕ) (start here : Written) : Type 0 where
+  pub same : here ≡ writes (map three (stubs_in entries (those p row k 0))) start
 
-  -- the stubs of the rows from row i on
-  abbrev pub stubs_left : List ℕ → ℕ → List Words
-  stubs_left entries i = map three (stubs_in entries (those p row (n - i) i))
+module _ {p : ℕ → Bool} {row : ℕ → Switch} {entries : List ℕ} {k : ℕ} {start here : Written} (h : Stubbed p row entries k start here) where
+  -- no more stub instructions were written than twice the rows
+  pub stubs-near : here.at ≤ start.at + 2 * k
+  stubs-near =
+      let ws = those p row k 0 in
+      omega (
+        arith,
+        written_at start (map three (stubs_in entries ws)) h.same,
+        length-map (stubs_in entries ws) three,
+        stubs-count entries ws,
+        those-few p row k 0,
+      )
 
-  module _ (entries : List ℕ) where
-    -- before the first row all stubs are left
-    pub stubs-all : stubs_left entries 0 ≡ map three (stubs_in entries (those p row n 0))
-    stubs-all = ap (λ (ws : List Switch). map three (stubs_in entries ws)) (those-all p row n)
-
-    -- no more stub instructions are left than twice the rows that are left
-    pub stubs-few : (i : ℕ) → length (stubs_left entries i) ≤ 2 * (n - i)
-    stubs-few i =
-        omega (
-          arith,
-          length-map (stubs_in entries (those p row (n - i) i)) three,
-          stubs-count entries (those p row (n - i) i),
-          those-few p row (n - i) i,
-        )
-
-    -- the stubs that are left are that of this row and the rest
-    pub stubs-next : (i : ℕ) → i < n → stubs_left entries i ≡ map three (stubs_in entries (those p row 1 i)) ++ stubs_left entries (i + 1)
-    stubs-next i l =
-        let here = those p row 1 i in
-        let rest = those p row (n - (i + 1)) (i + 1) in
-        ap (λ (ws : List Switch). map three (stubs_in entries ws)) (those-next p row n i l)
-        ∙ ap (map three) (stubs-append entries here rest)
-        ∙ map-append three (stubs_in entries here) (stubs_in entries rest)
-
-    -- behind the last row no stub is left
-    pub stubs-end : (i : ℕ) → n ≤ i → stubs_left entries i ≡ []
-    stubs-end i l = ap (λ (ws : List Switch). map three (stubs_in entries ws)) (those-end p row n i l)
+  -- the stub of one row more is written, if it passes
+  pub stubs-more : {there : Written} → there ≡ writes (map three (stubs_in entries (those p row 1 k))) here
+      → Stubbed p row entries (k + 1) start there
+  stubs-more e =
+      let ws = those p row k 0 in
+      let one = those p row 1 k in
+      let more =
+      sym (map-append three (stubs_in entries ws) (stubs_in entries one))
+      ∙ ap (map three) (sym (stubs-append entries ws one))
+      ∙ ap (λ (l : List Switch). map three (stubs_in entries l)) (sym (those-more p row k)) in
+      record {
+        same =
+            writes_then start (map three (stubs_in entries ws)) (map three (stubs_in entries one)) h.same e
+            ∙ ap (λ (l : List Words). writes l start) more;
+      }

@@ -9,10 +9,9 @@ use Rattle.code.specs.Listing.{tests_of}
 use Rattle.layout.specs.declared.counts.Counts.{Counts}
 use Rattle.layout.specs.Counts.{counts_in}
 use Rattle.words.specs.Written.{Words, three}
-use Rattle.writing.specs.Rows.{reading, form_rows}
+use Rattle.writing.specs.Rows.{reading, outputs_in, updates_in, drivers_in, schedules_in}
 use Rattle.writing.specs.Switches.{switches_in, stubs_in}
-use Rattle.writing.specs.declared.rows.Form.TheVariants.{OutputCopy, Update, TaskDriver, Schedule}
-use Rattle.writing.specs.declared.rows.Instant.{Instant}
+use Rattle.layout.specs.declared.counts.Instant.{Instant}
 use Rattle.writing.specs.declared.blocks.Aim.{Aim}
 
 -- the numbers in a block fit words, and so does the address of each of its stubs
@@ -24,11 +23,11 @@ pub record Aimed (aim : Aim) : Type 0 where
 -- what stands before the switch tests of a block: output copies of due tasks; due updates; all sensors
 abbrev pub head_in : List ℤ → List ℤ → List ℤ → Instant → List Words
 head_in ports invocations updates when =
-    form_rows OutputCopy invocations when ++ (form_rows Update updates when ++ sensor_rows ports reading)
+    outputs_in invocations when ++ (updates_in updates when ++ sensor_rows ports reading)
 
 -- what stands from the entry of a block to its `future`: due task drivers; their schedules
 abbrev pub body_in : List ℤ → Instant → List Words
-body_in invocations when = form_rows TaskDriver invocations when ++ form_rows Schedule invocations when
+body_in invocations when = drivers_in invocations when ++ schedules_in invocations when
 
 -- what stands between the schedules of a block and its stubs: `future` one unit, next unit's block; `return`
 abbrev pub end_in : Aim → List Words

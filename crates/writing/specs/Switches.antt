@@ -6,7 +6,7 @@ use Rattle.program.specs.Program.{Switch}
 use Rattle.code.specs.Op.{Op, jump}
 use Rattle.code.specs.Listing.{call_driver}
 use Rattle.writing.specs.Rows.{due_at}
-use Rattle.writing.specs.declared.rows.Instant.{Instant}
+use Rattle.layout.specs.declared.counts.Instant.{Instant}
 
 -- the switch that row i of the table says
 abbrev pub switch_in : List ℤ → ℕ → Switch

@@ -9,11 +9,11 @@ ghost use Rattle.words.specs.Written.{written, writes};
 ghost use Rattle.writing.specs.Switches.{Addresses};
 ghost use Rattle.writing.specs.Block.{Aimed, head_in, body_in, end_in, parts_in};
 
-use crate::rows::{Form, Instant};
 use crate::{rows, sensors, switches};
-use cells::limits::Program;
-use cells::tables;
-use code::numbers;
+use cells::tables::ProgramTables;
+use code::opcode::Opcode;
+use layout::counts::Instant;
+use words::Instruction;
 
 // The numbers in a block: where its first stub stands, the delay of its `future`, and the block of the next unit.
 #[derive(Clone, Copy)]
@@ -39,8 +39,8 @@ fn head(
     ensures { written code.new result ≡ writes (head_in ports.now invocations.now
         updates.now when) (written code.old at) }
 {
-    let updates_at = rows::due(code, at, invocations, Form::OutputCopy, when);
-    let sensors_at = rows::due(code, updates_at, updates, Form::Update, when);
+    let updates_at = rows::outputs(code, at, invocations, when);
+    let sensors_at = rows::updates(code, updates_at, updates, when);
     sensors::sensors(code, sensors_at, ports)
 }
 
@@ -50,8 +50,8 @@ fn body(code: &mut [u32], at: usize, invocations: &[i32], when: Instant) -> usiz
     requires invocations_bound { rows_in invocation_width invocations.now ≤ max_invocations }
     ensures { written code.new result ≡ writes (body_in invocations.now when) (written code.old at) }
 {
-    let schedules_at = rows::due(code, at, invocations, Form::TaskDriver, when);
-    rows::due(code, schedules_at, invocations, Form::Schedule, when)
+    let schedules_at = rows::drivers(code, at, invocations, when);
+    rows::schedules(code, schedules_at, invocations, when)
 }
 
 // The end of a block before its stubs is written: `future` one unit, next unit's block; `return`.
@@ -60,15 +60,16 @@ fn end(code: &mut [u32], at: usize, aim: Aim) -> usize
     requires aimed { Aimed aim }
     ensures { written code.new result ≡ writes (end_in aim) (written code.old at) }
 {
-    let next = words::instruction(code, at, numbers::FUTURE, aim.ticks, aim.next);
-    words::instruction(code, next, numbers::RETURN, 0, 0)
+    // `Aimed` says that both fit a word.
+    let next = Instruction::new(Opcode::Future, aim.ticks as u32, aim.next as u32).write(code, at);
+    Instruction::new(Opcode::Return, 0, 0).write(code, next)
 }
 
 // The parts of a block are written, one after the other. The address behind the block is returned.
 pub fn parts(
     code: &mut [u32],
     at: usize,
-    tables: &[&[i32]; Program::TABLES],
+    tables: &ProgramTables,
     entries: &[usize],
     when: Instant,
     aim: Aim,
@@ -80,19 +81,17 @@ pub fn parts(
     ensures { (start : ℤ) → let T = tables_in tables.now start in
         written code.new result ≡ writes (parts_in T entries.now when aim) (written code.old at) }
 {
-    let invocations = tables[tables::INVOCATIONS];
-    let switches = tables[tables::SWITCHES];
     let stub = aim.stub;
     let tests_at = head(
         code,
         at,
-        tables[tables::PORTS],
-        invocations,
-        tables[tables::UPDATES],
+        tables.ports,
+        tables.invocations,
+        tables.updates,
         when,
     );
-    let body_at = switches::tests(code, tests_at, switches, when, stub);
-    let end_at = body(code, body_at, invocations, when);
+    let body_at = switches::tests(code, tests_at, tables.switches, when, stub);
+    let end_at = body(code, body_at, tables.invocations, when);
     let stubs_at = end(code, end_at, aim);
-    switches::stubs(code, stubs_at, switches, when, entries)
+    switches::stubs(code, stubs_at, tables.switches, when, entries)
 }

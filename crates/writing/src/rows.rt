@@ -1,92 +1,106 @@
 // E code for the rows of a table: an instruction for each row that is due.
-ghost use Rattle.std.specs.Prelude.{◌≡◌, [], ◌∷◌, ◌+◌, ◌≤◌};
+ghost use Rattle.std.specs.Prelude.{◌≡◌, ◌+◌, ◌<◌, ◌≤◌, ℕ, Bool};
 ghost use Rattle.theory.specs.Lists.{those};
-ghost use Rattle.cells.specs.Cell.{rows_in, greatest_word};
-ghost use Rattle.words.specs.Written.{written, writes};
-ghost use Rattle.writing.specs.Rows.{is_due, form_width, row_words, form_rows};
+ghost use Rattle.theory.specs.Search.{Tests};
+ghost use Rattle.cells.specs.Cell.{Column, rows_in, greatest_word};
+ghost use Rattle.program.specs.Tables.{frequency_column, invocation_width, update_width};
+ghost use Rattle.words.specs.Written.{Words, written, writes};
+ghost use Rattle.writing.specs.Rows.{Makes, due_at, outputs_in, updates_in, drivers_in, schedules_in};
 
 use cells::columns::{invocation, update};
-use cells::kinds::Mode;
+use cells::kinds::{Driver, Task};
 use cells::table;
+use layout::counts::Instant;
 use program::due;
+use words::Instruction;
 
-// A unit of a mode: the mode, how many units it has, and which of them.
-#[derive(Clone, Copy)]
-pub struct Instant {
-    pub mode: Mode,
-    pub units: usize,
-    pub unit: usize,
-}
-
-// What is written for a due row: of an invocation its task's output copy, its driver or its task's schedule; of an update its driver.
-#[derive(Clone, Copy)]
-pub enum Form {
-    OutputCopy,
-    Update,
-    TaskDriver,
-    Schedule,
-}
-
-// How many columns the table has whose rows are written in this form.
-fn width(form: Form) -> usize
-    ensures { result ≡ form_width form }
+// The instruction of each row below n that passes the test is written, in order. The next address is returned.
+pub(crate) fn passing<T: Fn(usize) -> bool, R: Fn(usize) -> Instruction>(
+    code: &mut [u32],
+    at: usize,
+    n: usize,
+    test: T,
+    row: R,
+) -> usize
+    requires fits { at + n ≤ greatest_word }
+    requires tested { (k : ℕ) → k < n → T.pre test k }
+    requires made { (k : ℕ) → k < n → R.pre row k }
+    ensures { (p : ℕ → Bool) → (words : ℕ → Words) → Tests (T.post test) n p → Makes (R.post row) n words
+        → written code.new result ≡ writes (those p words n 0) (written code.old at) }
 {
-    match form {
-        Form::OutputCopy => invocation::WIDTH,
-        Form::Update => update::WIDTH,
-        Form::TaskDriver => invocation::WIDTH,
-        Form::Schedule => invocation::WIDTH,
-    }
-}
-
-// The instruction of row i is written in this form. The next address is returned.
-fn row(code: &mut [u32], at: usize, rows: &[i32], form: Form, i: usize) -> usize
-    requires { at ≤ greatest_word }
-    ensures { written code.new result ≡ writes (row_words form rows.now i ∷ []) (written code.old at) }
-{
-    match form {
-        Form::OutputCopy => {
-            let ended = table::task(rows, invocation::WIDTH, i, invocation::TASK);
-            words::output_call(code, at, ended)
-        }
-        Form::Update => {
-            let driver = table::driver(rows, update::WIDTH, i, update::DRIVER);
-            words::driver_call(code, at, driver)
-        }
-        Form::TaskDriver => {
-            let driver = table::driver(rows, invocation::WIDTH, i, invocation::DRIVER);
-            words::driver_call(code, at, driver)
-        }
-        Form::Schedule => {
-            let released = table::task(rows, invocation::WIDTH, i, invocation::TASK);
-            words::schedule(code, at, released)
-        }
-    }
-}
-
-// The instruction of row i is written if the row is due at this unit. The next address is returned.
-fn due_row(code: &mut [u32], at: usize, rows: &[i32], form: Form, when: Instant, i: usize) -> usize
-    requires { at ≤ greatest_word }
-    ensures { written code.new result ≡ writes (those (is_due (form_width form) rows.now when) (row_words form
-        rows.now) 1 i) (written code.old at) }
-{
-    if due::row_due(rows, width(form), when.mode, when.units, when.unit, i) {
-        return row(code, at, rows, form, i);
-    }
-    at
-}
-
-// The instructions of the rows that are due at this unit are written, in table order. The next address is returned.
-pub fn due(code: &mut [u32], at: usize, rows: &[i32], form: Form, when: Instant) -> usize
-    requires { at + rows_in (form_width form) rows.now ≤ greatest_word }
-    ensures { written code.new result ≡ writes (form_rows form rows.now when) (written code.old at) }
-{
-    let n = rows.len() / width(form);
     let mut next = at;
-    let mut i = 0;
-    while i < n {
-        next = due_row(code, next, rows, form, when, i);
-        i += 1;
+    for k in 0..n {
+        if test(k) {
+            next = row(k).write(code, next);
+        }
     }
     next
+}
+
+// The instruction of each row of a table that is due at this unit is written, in table order. The next address is returned.
+fn due<R: Fn(usize) -> Instruction>(
+    code: &mut [u32],
+    at: usize,
+    t: &[i32],
+    width: usize,
+    when: Instant,
+    row: R,
+) -> usize
+    requires column { Column width frequency_column }
+    requires fits { at + rows_in width t.now ≤ greatest_word }
+    requires made { (k : ℕ) → k < rows_in width t.now → R.pre row k }
+    ensures { (words : ℕ → Words) → Makes (R.post row) (rows_in width t.now) words
+        → written code.new result ≡ writes (due_at width t.now when words) (written code.old at) }
+{
+    passing(
+        code,
+        at,
+        t.len() / width,
+        |k| due::row_due(t, width, when.mode, when.units, when.unit, k),
+        row,
+    )
+}
+
+// The output copies of the due tasks are written. The next address is returned.
+pub(crate) fn outputs(code: &mut [u32], at: usize, invocations: &[i32], when: Instant) -> usize
+    requires { at + rows_in invocation_width invocations.now ≤ greatest_word }
+    ensures { written code.new result ≡ writes (outputs_in invocations.now when) (written code.old at) }
+{
+    due(code, at, invocations, invocation::WIDTH, when, |k| {
+        let ended: Task = table::named(invocations, invocation::WIDTH, k, invocation::TASK);
+        Instruction::output_call(ended)
+    })
+}
+
+// The drivers of the due updates are written. The next address is returned.
+pub(crate) fn updates(code: &mut [u32], at: usize, updates: &[i32], when: Instant) -> usize
+    requires { at + rows_in update_width updates.now ≤ greatest_word }
+    ensures { written code.new result ≡ writes (updates_in updates.now when) (written code.old at) }
+{
+    due(code, at, updates, update::WIDTH, when, |k| {
+        let driver: Driver = table::named(updates, update::WIDTH, k, update::DRIVER);
+        Instruction::driver_call(driver)
+    })
+}
+
+// The drivers of the due tasks are written. The next address is returned.
+pub(crate) fn drivers(code: &mut [u32], at: usize, invocations: &[i32], when: Instant) -> usize
+    requires { at + rows_in invocation_width invocations.now ≤ greatest_word }
+    ensures { written code.new result ≡ writes (drivers_in invocations.now when) (written code.old at) }
+{
+    due(code, at, invocations, invocation::WIDTH, when, |k| {
+        let driver: Driver = table::named(invocations, invocation::WIDTH, k, invocation::DRIVER);
+        Instruction::driver_call(driver)
+    })
+}
+
+// The schedules of the due tasks are written. The next address is returned.
+pub(crate) fn schedules(code: &mut [u32], at: usize, invocations: &[i32], when: Instant) -> usize
+    requires { at + rows_in invocation_width invocations.now ≤ greatest_word }
+    ensures { written code.new result ≡ writes (schedules_in invocations.now when) (written code.old at) }
+{
+    due(code, at, invocations, invocation::WIDTH, when, |k| {
+        let released: Task = table::named(invocations, invocation::WIDTH, k, invocation::TASK);
+        Instruction::schedule(released)
+    })
 }

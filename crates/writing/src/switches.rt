@@ -9,12 +9,13 @@ ghost use Rattle.words.specs.Written.{three, written, writes};
 ghost use Rattle.writing.specs.Rows.{is_due};
 ghost use Rattle.writing.specs.Switches.{switch_in, switches_in, stubs_in, Addresses};
 
-use crate::rows::Instant;
 use cells::columns::switch;
-use cells::kinds::Driver;
+use cells::kinds::{Driver, Mode};
 use cells::{modes, table};
-use code::numbers;
+use code::opcode::Opcode;
+use layout::counts::Instant;
 use program::due;
+use words::Instruction;
 
 // The test of row i is written if the row is due: `if driver stub`. The next address is returned.
 fn test_row(
@@ -31,12 +32,13 @@ fn test_row(
         (switch_in switches.now) 1 i) stub)) (written code.old at) }
 {
     if due::row_due(switches, switch::WIDTH, when.mode, when.units, when.unit, i) {
-        let driver = table::driver(switches, switch::WIDTH, i, switch::DRIVER);
-        return words::test(code, at, driver, stub);
+        let driver: Driver = table::named(switches, switch::WIDTH, i, switch::DRIVER);
+        return Instruction::test(driver, stub).write(code, at);
     }
     at
 }
 
+// (Not by `rows::passing`: a test names a place that counts the tests before it, and a stub has two instructions.)
 // The tests of the due rows are written, in table order; the first stub stands at `stub`, and each has two instructions.
 pub fn tests(code: &mut [u32], at: usize, switches: &[i32], when: Instant, stub: usize) -> usize
     requires switches_bound { at + rows_in switch_width switches.now ≤ greatest_word }
@@ -44,12 +46,9 @@ pub fn tests(code: &mut [u32], at: usize, switches: &[i32], when: Instant, stub:
     ensures { written code.new result ≡ writes (map three (tests_of (switches_in switches.now when) stub))
         (written code.old at) }
 {
-    let n = switches.len() / switch::WIDTH;
     let mut next = at;
-    let mut i = 0;
-    while i < n {
+    for i in 0..switches.len() / switch::WIDTH {
         next = test_row(code, next, switches, when, stub + 2 * (next - at), i);
-        i += 1;
     }
     next
 }
@@ -61,8 +60,9 @@ fn stub(code: &mut [u32], at: usize, driver: Driver, to: usize) -> usize
     ensures { written code.new result ≡ writes (map three (call_driver driver.0 ∷ jump to ∷ [])) (written
         code.old at) }
 {
-    let next = words::driver_call(code, at, driver);
-    words::instruction(code, next, numbers::JUMP, to, 0)
+    let next = Instruction::driver_call(driver).write(code, at);
+    // The address fits a word: the premise says so.
+    Instruction::new(Opcode::Jump, to as u32, 0).write(code, next)
 }
 
 // The stub of row i is written if the row is due. The next address is returned.
@@ -80,8 +80,8 @@ fn stub_row(
         switches.now when) (switch_in switches.now) 1 i))) (written code.old at) }
 {
     if due::row_due(switches, switch::WIDTH, when.mode, when.units, when.unit, i) {
-        let driver = table::driver(switches, switch::WIDTH, i, switch::DRIVER);
-        let target = table::mode(switches, switch::WIDTH, i, switch::TARGET);
+        let driver: Driver = table::named(switches, switch::WIDTH, i, switch::DRIVER);
+        let target: Mode = table::named(switches, switch::WIDTH, i, switch::TARGET);
         return stub(code, at, driver, modes::number(entries, target));
     }
     at
@@ -100,12 +100,9 @@ pub fn stubs(
     ensures { written code.new result ≡ writes (map three (stubs_in entries.now (switches_in
         switches.now when))) (written code.old at) }
 {
-    let n = switches.len() / switch::WIDTH;
     let mut next = at;
-    let mut i = 0;
-    while i < n {
+    for i in 0..switches.len() / switch::WIDTH {
         next = stub_row(code, next, switches, when, entries, i);
-        i += 1;
     }
     next
 }

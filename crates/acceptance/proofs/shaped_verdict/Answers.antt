@@ -1,39 +1,31 @@
 -- `acceptance::shaped_verdict` meets its contract: a number up to 11 with its place, else 12 at the window that the search found.
-use mathlib.Core.Path.{◌≡◌, refl, sym, ap, ◌∙◌}
-use native.Mathlib.Omega.{arith}
-use Rattle.theory.specs.Verdict.{rows_answer, or_next}
-use Rattle.theory.specs.declared.Answer.{Answer}
-use Rattle.theory.proofs.Verdict.{found_rows, next-given, next-none}
+use Rattle.std.specs.Prelude.{Err}
+use Rattle.std.proofs.lemmas.Result.{err_from_is_err_and}
+use mathlib.Core.Path.{refl, ap, ◌∙◌}
+use Rattle.theory.specs.Rows.{testing}
+use Rattle.theory.specs.Verdict.{rows_answer}
+use Rattle.cells.specs.declared.refusals.Refusal.TheVariants.{Windows}
 use Rattle.cells.specs.Refusals.{windows_refused}
+use Rattle.answers.specs.Answers.{answer_of}
+use Rattle.answers.proofs.Told.{told-rows, went-on, stopped}
 use Rattle.program.specs.Tables.{tables_in, windows_at}
-use Rattle.verdict_2_11.specs.Tables.{tables_and_code_answer}
-use Rattle.suppliers.specs.Windows.{Windowed, window_wrong, window_tests}
+use Rattle.runs.specs.Windows.{window_count}
+use Rattle.suppliers.specs.Windows.{window_wrong, window_tests}
 use Rattle.acceptance.specs.Judged.{windowed, shaped_answer}
-use Rattle.acceptance.proofs.shaped_verdict.Lts
-use Rattle.acceptance.proofs.shaped_verdict.Tie
-use Rattle.acceptance.proofs.shaped_verdict.Reads
 use Rattle.acceptance.proofs.shaped_verdict.Goals as goal
 
--- the program and the windows that were lent
-abbrev lent : Lts.Start Tie.the-claims Reads.Pre Reads.Post → Windowed
-lent c = windowed (tables_in c.args.tables.now c.args.program.start) c.args.windows.now
-
--- number 12 is asked after those up to 11
-in_order : (L : Windowed) {x : Answer} → x ≡ tables_and_code_answer L.tables → shaped_answer L ≡ or_next x (rows_answer windows_refused (window_tests L))
+pub returns-in_err-tables_and_code : goal.returns-in_err-tables_and_code
 unfolding shaped_answer
-in_order L e = ap (λ (x : Answer). or_next x (rows_answer windows_refused (window_tests L))) (sym e)
-
-pub returns-then-answer-gt-ACCEPTED : goal.returns-then-answer-gt-ACCEPTED
-returns-then-answer-gt-ACCEPTED c =
-    let begin = c.before.before.before in
-    let v = c.tables_and_code-answer in
-    sym (in_order (lent begin) v.ensures ∙ next-given v.result _ (λ z. omega (arith, z, c.if-answer-gt-ACCEPTED.true)))
+returns-in_err-tables_and_code c =
+    let L = windowed (tables_in c.args.tables.now c.args.program.start) c.args.windows.now in
+    let p = err_from_is_err_and c.from_residual.result c.from_residual.ensures.1 in
+    ap answer_of (p.1 ∙ ap Err p.2)
+    ∙ stopped (rows_answer windows_refused (window_tests L)) refl c.tables_and_code.ensures c.in_err-tables_and_code.was
 
 pub returns : goal.returns
+unfolding shaped_answer
 returns c =
-    let begin = c.before.before.before.before.before.before in
-    let v = c.tables_and_code-answer in
-    let L = lent begin in
-    c.found.ensures
-    ∙ found_rows windows_refused windows_at (window_wrong L.tables L.windows) (c.first_wrong_window-first.ensures L.tables refl) refl
-    ∙ sym (in_order L v.ensures ∙ next-none v.result _ (omega (arith, c.if-answer-gt-ACCEPTED.false)))
+    let L = windowed (tables_in c.args.tables.now c.args.program.start) c.args.windows.now in
+    let window = testing windows_at (window_count L.windows) (window_wrong L.tables L.windows) in
+    went-on (rows_answer windows_refused (window_tests L)) refl c.tables_and_code.ensures c.in_ok-tables_and_code.was
+    (c.refused_at.ensures ∙ told-rows Windows window (c.first_wrong_window-window.ensures L.tables refl))

@@ -15,29 +15,18 @@ asked : (T : Tables) (i m d p : ℕ) (b : Bool) → m ≡ switch_mode T i → d 
 unfolding gap_at
 asked T i m d p b u v w e = rw (sym e, w, v, u) refl
 
-pub returns-then-is_interval-is_kind : goal.returns-then-is_interval-is_kind
-returns-then-is_interval-is_kind c start =
-    let k = c in
-    let v = k in
-    let p = v in
-    let d = p in
-    let m = d in
-    let a = m.args in
-    let T = tables_in a.tables.now start in
-    ap not (c.has_for_missing.ensures T refl refl)
+pub returns-then-is_interval-sensor : goal.returns-then-is_interval-sensor
+returns-then-is_interval-sensor c start =
+    let T = tables_in c.args.tables.now start in
+    ap not (c.has_for_missing.ensures start)
     ∙ sym
-    (asked T a.i m.mode-m.result.0 d.driver-d.result.0 p.port-p.result.0 true m.mode-m.ensures d.driver-d.ensures
-    p.port-p.ensures (sym (ap₂ ◌&&◌ (v.is_interval.ensures T refl) (k.is_kind.ensures T refl)) ∙ c.if-is_interval-is_kind.true))
+    (asked T c.args.i _ _ _ true c.named-m.ensures c.named-d.ensures
+    c.port-p.ensures (sym (ap₂ ◌&&◌ (c.is_interval.ensures T refl) (c.is_kind-sensor.ensures T refl)) ∙ c.if-is_interval-sensor.true))
 
-pub returns : goal.returns
-returns c start =
-    let k = c in
-    let v = k in
-    let p = v in
-    let d = p in
-    let m = d in
-    let a = m.args in
-    let T = tables_in a.tables.now start in
-    sym
-    (asked T a.i m.mode-m.result.0 d.driver-d.result.0 p.port-p.result.0 false m.mode-m.ensures d.driver-d.ensures
-    p.port-p.ensures (sym (ap₂ ◌&&◌ (v.is_interval.ensures T refl) (k.is_kind.ensures T refl)) ∙ c.if-is_interval-is_kind.false))
+pub returns-else-is_interval-sensor : goal.returns-else-is_interval-sensor
+returns-else-is_interval-sensor c start =
+    let T = tables_in c.args.tables.now start in
+    c.if-is_interval-sensor.false
+    ∙ sym
+    (asked T c.args.i _ _ _ false c.named-m.ensures c.named-d.ensures
+    c.port-p.ensures (sym (ap₂ ◌&&◌ (c.is_interval.ensures T refl) (c.is_kind-sensor.ensures T refl)) ∙ c.if-is_interval-sensor.false))

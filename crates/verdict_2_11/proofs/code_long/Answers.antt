@@ -22,7 +22,6 @@ lay_out-requires c =
 pub returns : goal.returns
 unfolding code_long
 returns c start =
-    let after-sensors-sensors = c.before.before.before.before.before in
     let T = tables_in c.args.tables.now start in
     let own = c.sensors-sensors.ensures ∙ ap length (sym (sensors-rows T)) in
-    ap (λ (after-sensors-sensors : ℕ). ltb max_code after-sensors-sensors) (c.lay_out.ensures.laid start own).length
+    ap (λ (n : ℕ). ltb max_code n) (c.lay_out.ensures.laid start own).length

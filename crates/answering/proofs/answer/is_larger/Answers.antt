@@ -1,12 +1,14 @@
 -- `answering::answer::is_larger` meets its contract: the code is counted only for 11, since then the tables have their shape.
-use borrow.Author.Tests.{eq-eqb, ne_eqb}
+use mathlib.Core.Path.{refl}
+use borrow.Author.Tests.{ne_eqb}
 use Rattle.text.specs.Shipped.{is_larger}
+use Rattle.answering.proofs.Larger.{eleven-only}
 use Rattle.answering.proofs.answer.is_larger.Goals as goal
 
-pub returns-then-number-eq-CODE : goal.returns-then-number-eq-CODE
+pub returns-in-Code : goal.returns-in-Code
 unfolding is_larger
-returns-then-number-eq-CODE c start = simp (eq-eqb _ _ c.if-number-eq-CODE.true, c.code_long.ensures start)
+returns-in-Code c start = simp (c.in-Code.is, c.code_long.ensures start) refl
 
-pub returns : goal.returns
+pub returns-in_default : goal.returns-in_default
 unfolding is_larger
-returns c start = simp (ne_eqb _ _ c.if-number-eq-CODE.false)
+returns-in_default c start = simp (ne_eqb _ _ (λ e. c.in_default.not-Code (eleven-only c.args.refusal e))) refl

@@ -7,4 +7,4 @@ pub returns : goal.returns
 unfolding rest_of
 returns c =
     let a = c.args in
-    between_is a.sheet.from a.sheet.len c.least-from.result c.least-end.result a.buffer.now c.least-end.ensures c.least-from.ensures
+    between_is a.sheet.from a.sheet.len c.min-from.result c.min-end.result a.buffer.now c.min-end.ensures c.min-from.ensures

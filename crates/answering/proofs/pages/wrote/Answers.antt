@@ -19,4 +19,4 @@ returns-then-n-left c = simp (← c.rest-left.ensures, lt-ltb _ _ c.if-n-left.tr
 
 pub returns : goal.returns
 unfolding wrote_of
-returns c = simp (← c.rest-left.ensures, le-ltb _ _ c.if-n-left.false) c.page.ensures
+returns c = simp (← c.rest-left.ensures, le-ltb _ _ c.if-n-left.false) c.later.ensures

@@ -1,5 +1,5 @@
 -- `compiler::rounds::all_blocks` meets its contract: after so many units their blocks are written.
-use Prim.Native.Nat.{ℕ, ◌-◌}
+use Prim.Native.Nat.{ℕ}
 use mathlib.Core.List.{List}
 use lib.IntN.{pos}
 use Rattle.program.specs.Tables.{Tables, tables_in}
@@ -15,7 +15,4 @@ piece T entries round k = block_in T entries round k (block_start T round k)
 
 abbrev pub invariant-loop-unit : goal.invariant-loop-unit
 invariant-loop-unit l =
-    Grown (piece (tables_in l.tables (pos 0)) l.entries l.round) l.round.units l.unit (written l.initial.code l.round.first) (written l.code l.at)
-
-abbrev pub decreases-loop-unit : goal.decreases-loop-unit
-decreases-loop-unit l = l.round.units - l.unit
+    Grown (piece (tables_in l.source.tables.now (pos 0)) l.source.entries.now l.round) l.round.units l.unit (written l.initial.code l.round.first) (written l.code l.at)

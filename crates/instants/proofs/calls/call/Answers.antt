@@ -22,13 +22,13 @@ sensor_call-requires c =
 pub returns-in-0-to-999 : goal.returns-in-0-to-999
 returns-in-0-to-999 c start times =
     let s = c.args in
-    c.driver_call.ensures (tables_in s.tables.now start) refl refl s.readings.now times
+    c.driver_call.ensures start s.readings.now times
     ∙ ap (call_answer (program_in s.tables.now start) s.readings.now times s.s) (driver-numbered s.n (omega arith))
 
 pub returns-in-1000-to-1999 : goal.returns-in-1000-to-1999
 returns-in-1000-to-1999 c start times =
     let s = c.args in
-    c.output_call.ensures (tables_in s.tables.now start) refl refl refl s.readings.now times
+    c.output_call.ensures start s.readings.now times
     ∙ ap (call_answer (program_in s.tables.now start) s.readings.now times s.s)
     (output-numbered s.n (omega arith) (omega arith))
 

@@ -5,10 +5,10 @@ use Rattle.cells.proofs.Ints.{back}
 use Rattle.intake.specs.Line.{stored_of}
 use Rattle.intake.proofs.lines.stored.Goals as goal
 
-pub returns-then-at-room : goal.returns-then-at-room
+pub returns-then-i-room : goal.returns-then-i-room
 unfolding stored_of
-returns-then-at-room c = simp (lt-ltb _ _ c.if-at-room.true, back c.args.z c.ranges.z.sfits) refl
+returns-then-i-room c = simp (lt-ltb _ _ c.if-i-room.true, back c.args.z c.ranges.z.sfits) refl
 
 pub returns : goal.returns
 unfolding stored_of
-returns c = simp (le-ltb _ _ c.if-at-room.false, c.as_bad.ensures) refl
+returns c = simp (le-ltb _ _ c.if-i-room.false, c.as_bad.ensures) refl

@@ -1,11 +1,7 @@
 -- `intake::shape::width` meets its contract: the list has the widths of the ten shapes.
-use mathlib.Core.Path.{sym, ap}
-use Rattle.text.specs.Input.{Shape}
-use Rattle.intake.proofs.Shapes.{width-at, shape-past}
+use mathlib.Core.Path.{◌∙◌}
+use Rattle.intake.proofs.Shapes.{width-at}
 use Rattle.intake.proofs.shape.width.Goals as goal
 
-pub returns-then-table-lt-TABLES : goal.returns-then-table-lt-TABLES
-returns-then-table-lt-TABLES c = width-at c.args.table
-
 pub returns : goal.returns
-returns c = sym (ap (λ (s : Shape). s.width) (shape-past c.args.table c.if-table-lt-TABLES.false))
+returns c = c.at.ensures ∙ width-at c.args.place

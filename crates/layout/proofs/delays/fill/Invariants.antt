@@ -1,9 +1,9 @@
--- `layout::delays::fill` meets its contract: after m modes the marks and the ticks are those of the first m, and the next
+-- `layout::delays::fill` meets its contract: after k modes the marks and the ticks are those of the first k, and the next
 -- one begins behind them.
-use Prim.Native.Nat.{ℕ, ◌-◌}
+use Prim.Native.Nat.{ℕ}
 use mathlib.Core.Path.{◌≡◌}
 use mathlib.Core.List.{List}
-use lib.IntN.{ℤ, pos}
+use lib.IntN.{ℤ}
 use Rattle.theory.specs.Lists.{filled}
 use Rattle.program.specs.Tables.{Tables, tables_in, mode_count}
 use Rattle.program.specs.Units.{units}
@@ -18,9 +18,6 @@ Marked T sensors marks₀ ticks₀ m at marks ticks =
     Walking (size_in T sensors) (λ m at table. units_marked (unit_counts T sensors m) m at (units T m) table) 1 (mode_count T) marks₀ m at marks
     × (ticks ≡ filled (ticks_in T) m ticks₀)
 
-abbrev pub invariant-loop-modes : goal.invariant-loop-modes
-invariant-loop-modes l =
-    (start : ℤ) → Marked (tables_in l.tables start) l.sensors l.initial.marks l.initial.ticks l.m.0 l.at l.marks l.ticks
-
-abbrev pub decreases-loop-modes : goal.decreases-loop-modes
-decreases-loop-modes l = mode_count (tables_in l.tables (pos 0)) - l.m.0
+abbrev pub invariant-loop-k : goal.invariant-loop-k
+invariant-loop-k l =
+    (start : ℤ) → Marked (tables_in l.tables start) l.sensors l.initial.marks l.initial.ticks l.k l.at l.marks l.ticks

@@ -1,10 +1,9 @@
--- `rules_1_2::ranges::always_fits` meets its contract: each field read is the definition's column, and `same` read low and high from their
+-- `rules_1_2::ranges::always_fits` meets its contract: each field read is the definition's column, and two numbers are compared by their
 -- bits.
-use mathlib.Core.Path.{◌≡◌, ap, ◌∙◌}
+use mathlib.Core.Path.{◌∙◌}
 use native.Mathlib.Omega.{arith}
-use lib.IntN.{ℤ, pos}
-use Rattle.cells.specs.Cell.{eq_z}
-use Rattle.cells.proofs.Ints.{back}
+use lib.IntN.{pos}
+use Rattle.cells.proofs.Ints.{bits-eq}
 use Rattle.cells.proofs.Names.{name-small}
 use Rattle.rules.specs.Fields.{always_fits}
 use Rattle.rules_1_2.proofs.ranges.always_fits.Goals as goal
@@ -14,17 +13,15 @@ unfolding always_fits
 returns c T e =
     let low = c.low-low in
     let high = c.high-high in
-    let l : c.same.result ≡ eq_z low.result (pos 0) =
-    c.same.ensures ∙ ap (λ (z : ℤ). eq_z z (pos 0)) (back low.result low.type_inv) in
-    let h : c.same-2.result ≡ eq_z high.result (pos 0) = c.same-2.ensures ∙ ap (λ (z : ℤ). eq_z z (pos 0)) (back high.result high.type_inv) in
-    simp (
-      h,
-      l,
-      c.is.ensures,
+    let l = bits-eq low.result (pos 0) (record { sfits = low.type_inv }) (record { sfits = omega arith }) in
+    let h = bits-eq high.result (pos 0) (record { sfits = high.type_inv }) (record { sfits = omega arith }) in
+    simp (h, l)
+    (simp (
+      c.eq.ensures,
       c.of.ensures ∙ name-small 0 (omega arith),
       high.ensures,
       low.ensures,
       c.port-p.ensures,
-      c.guard-kind.ensures,
+      c.is.ensures,
       e,
-    )
+    ))

@@ -1,6 +1,6 @@
 -- `runs::turn::moved` meets its contract: from every row passed it comes to the same position.
 use mathlib.Core.Path.{sym, ◌∙◌}
-use Rattle.runs.proofs.Rows.{comes-more, comes-stop, comes-end}
+use Rattle.runs.proofs.Rows.{comes-more, comes-stop, comes-last}
 use Rattle.runs.proofs.turn.moved.Goals as goal
 
 pub returns-then-not-skipped : goal.returns-then-not-skipped
@@ -14,6 +14,4 @@ loop-i-preserved c =
     ∙ c.loop-i.invariant
 
 pub returns : goal.returns
-returns c =
-    let a = c.args in
-    comes-end a.block.now a.elapsed a.left.now c.loop-i.i c.loop-i-test.false ∙ c.loop-i.invariant
+returns c = c.max.ensures ∙ comes-last _ _ _ _ c.loop-i.i c.loop-i.auto.i-end c.loop-i-test.false c.loop-i.invariant

@@ -11,12 +11,10 @@ use Rattle.suppliers.proofs.parts.asked.Goals as goal
 
 pub returns-then-supplier-ge-SUPPLIERS : goal.returns-then-supplier-ge-SUPPLIERS
 returns-then-supplier-ge-SUPPLIERS c =
-    c.found.ensures
-    ∙ sym (one-row schedule_refused supplier_at _
+    sym (one-row schedule_refused supplier_at _
     ∙ ap (λ (b : Bool). cond b (at_row schedule_refused supplier_at 0) (placeless accepted_number)) (le-leb _ _ c.if-supplier-ge-SUPPLIERS.true))
 
 pub returns : goal.returns
 returns c =
-    c.accepted.ensures
-    ∙ sym (one-row schedule_refused supplier_at _
+    sym (one-row schedule_refused supplier_at _
     ∙ ap (λ (b : Bool). cond b (at_row schedule_refused supplier_at 0) (placeless accepted_number)) (lt-leb _ _ c.if-supplier-ge-SUPPLIERS.false))

@@ -1,47 +1,73 @@
--- `text::listing::said` meets its contract: an arm for each number, nothing for the others.
+-- `text::listing::said` meets its contract: an arm for each instruction, nothing for the numbers that none has.
 use Prim.Native.Nat.{ℕ, ◌+◌}
 use mathlib.Core.Path.{◌≡◌, sym, ap, subst, ◌∙◌}
-use Rattle.code.specs.Op.{call, schedule, jump, return, call_number, schedule_number, if_number, jump_number, future_number, return_number}
-use Rattle.code.specs.Op.{decode}
+use native.Mathlib.Omega.{arith}
+use Rattle.code.specs.Op.{call, schedule, jump, return, decode}
+use Rattle.code.specs.Opcodes.{opcode_number}
+use Rattle.code.specs.declared.opcode.Opcode.{Opcode}
+use Rattle.code.specs.declared.opcode.Opcode.TheVariants.{Call, Schedule, If, Jump, Future, Return}
 use Rattle.text.specs.Line.{Appended}
-use Rattle.text.specs.Said.{said_of}
+use Rattle.text.specs.Said.{said_of, said_where}
 use Rattle.text.proofs.Lines.{appended-none}
-use Rattle.text.proofs.Said.{said-unused, said-unknown}
+use Rattle.text.proofs.Said.{said-both, said-unused, said-unknown}
 use Rattle.text.proofs.listing.said.Goals as goal
 
--- what is said of the instruction by the number that the first word is
-known :
-    (number first second n : ℕ) → number ≡ n → said_of (decode n first second) ≡ said_of (decode number first second)
-known number first second n e = ap (λ (k : ℕ). said_of (decode k first second)) (sym e)
+-- what is said of the instruction that a number names is what is said of the number
+known : (o named : Opcode) (number first second : ℕ) → named ≡ o → opcode_number named ≡ number
+    → said_of (decode (opcode_number o) first second) ≡ said_of (decode number first second)
+known o named number first second e h = ap (λ (k : ℕ). said_of (decode k first second)) (ap opcode_number (sym e) ∙ h)
 
-pub returns-in-0 : goal.returns-in-0
-returns-in-0 c =
-    subst (Appended _ _) (said-unused c.args.second (call c.args.first) ∙ known c.args.number c.args.first c.args.second call_number c.in-0.is) c.one.ensures
-
-pub returns-in-1 : goal.returns-in-1
-returns-in-1 c =
-    subst (Appended _ _) (said-unused c.args.second (schedule c.args.first) ∙ known c.args.number c.args.first c.args.second schedule_number c.in-1.is) c.one-in-1.ensures
-
-pub returns-in-2 : goal.returns-in-2
-unfolding said_of
-returns-in-2 c = subst (Appended _ _) (known c.args.number c.args.first c.args.second if_number c.in-2.is) c.two.ensures
-
-pub returns-in-3 : goal.returns-in-3
-returns-in-3 c =
-    subst (Appended _ _) (said-unused c.args.second (jump c.args.first) ∙ known c.args.number c.args.first c.args.second jump_number c.in-3.is) c.one-in-3.ensures
-
-pub returns-in-4 : goal.returns-in-4
-unfolding said_of
-returns-in-4 c = subst (Appended _ _) (known c.args.number c.args.first c.args.second future_number c.in-4.is) c.two-in-4.ensures
-
-pub returns-in-5 : goal.returns-in-5
-returns-in-5 c =
-    subst (Appended _ _) (said-unused (c.args.first + c.args.second) return ∙ known c.args.number c.args.first c.args.second return_number c.in-5.is) c.none.ensures
-
-pub returns-in_default : goal.returns-in_default
-returns-in_default c =
+pub returns-in-Ok-Call : goal.returns-in-Ok-Call
+returns-in-Ok-Call c =
     let a = c.args in
-    let r = c.in_default.in_default-own.rest in
+    let arm = c.in-Ok-Call in
+    subst (Appended _ _) (said-unused a.second (call a.first) ∙ known Call arm.field-0 a.number a.first a.second arm.field-0-is arm.ensures)
+    c.named.ensures
+
+pub returns-in-Ok-Schedule : goal.returns-in-Ok-Schedule
+returns-in-Ok-Schedule c =
+    let a = c.args in
+    let arm = c.in-Ok-Schedule in
     subst (Appended _ _)
-    (said-unknown a.number a.first a.second r.0.0.0.0.0.1 r.0.0.0.0.1 r.0.0.0.1 r.0.0.1 r.0.1 r.1)
-    (appended-none _)
+    (said-unused a.second (schedule a.first) ∙ known Schedule arm.field-0 a.number a.first a.second arm.field-0-is arm.ensures)
+    c.named-in-Ok-Schedule.ensures
+
+pub returns-in-Ok-If : goal.returns-in-Ok-If
+unfolding said_of said_where
+returns-in-Ok-If c =
+    let a = c.args in
+    let arm = c.in-Ok-If in
+    subst (Appended _ _) (known If arm.field-0 a.number a.first a.second arm.field-0-is arm.ensures) c.named-in-Ok-If.ensures
+
+pub returns-in-Ok-Jump : goal.returns-in-Ok-Jump
+returns-in-Ok-Jump c =
+    let a = c.args in
+    let arm = c.in-Ok-Jump in
+    subst (Appended _ _) (said-unused a.second (jump a.first) ∙ known Jump arm.field-0 a.number a.first a.second arm.field-0-is arm.ensures)
+    c.named-in-Ok-Jump.ensures
+
+pub returns-in-Ok-Future : goal.returns-in-Ok-Future
+unfolding said_of said_where
+returns-in-Ok-Future c =
+    let a = c.args in
+    let arm = c.in-Ok-Future in
+    subst (Appended _ _) (known Future arm.field-0 a.number a.first a.second arm.field-0-is arm.ensures) c.named-in-Ok-Future.ensures
+
+pub returns-in-Ok-Return : goal.returns-in-Ok-Return
+returns-in-Ok-Return c =
+    let a = c.args in
+    let arm = c.in-Ok-Return in
+    subst (Appended _ _)
+    (ap (λ (n : ℕ). said_where n _) c.max.ensures
+    ∙ said-both a.first a.second _
+    ∙ said-unused (a.first + a.second) return
+    ∙ known Return arm.field-0 a.number a.first a.second arm.field-0-is arm.ensures)
+    c.named-in-Ok-Return.ensures
+
+pub returns-in-Err : goal.returns-in-Err
+returns-in-Err c =
+    let a = c.args in
+    let past = c.in-Err.ensures in
+    subst (Appended _ _)
+    (said-unknown a.number a.first a.second (λ e. omega arith) (λ e. omega arith) (λ e. omega arith) (λ e. omega arith) (λ e. omega arith)
+    (λ e. omega arith)) (appended-none _)

@@ -1,10 +1,12 @@
 -- `text::page::fill` meets its contract: a line a turn, as long as there is an instruction and room for any line.
-use Prim.Native.Nat.{◌-◌, ◌≤◌, ◌<◌}
+use Prim.Native.Nat.{ℕ, ◌-◌, ◌≤◌, ◌<◌}
+use mathlib.Core.Path.{◌≡◌, subst}
 use native.Mathlib.Omega.{arith}
 use lib.ListN.{length, get_or}
 use Rattle.code.specs.Op.{faulty, instructions}
 use Rattle.code.proofs.Fetch.{instructions-length}
 use Rattle.text.specs.Line.{room}
+use Rattle.text.specs.Page.{Filled}
 use Rattle.text.proofs.Filling.{paged-full, paged-last, paged-more, written_same, written-more, written-some}
 use Rattle.text.proofs.Said.{line-few}
 use Rattle.text.proofs.page.fill.Goals as goal
@@ -47,11 +49,15 @@ lay-len-requires-clause-len_le_room c =
 pub returns : goal.returns
 returns c =
     let a = c.args in
-    let code = a.code.now in
+    let os = instructions a.code.now in
     let l = c.loop-next in
+    let w = l.invariant.0 in
     let past = c.loop-next-test.false in
-    record {
-      written = l.invariant.0;
-      end = paged-last (instructions code) (length a.out.now) a.from l.next l.len l.invariant.1 (omega (arith, past, instructions-length code));
-      progress = λ h r. omega (arith, past, instructions-length code);
-    }
+    let count = instructions-length a.code.now in
+    let e : l.next ≡ c.max.result = omega (arith, c.max.ensures, past, count, w.inside, w.onward) in
+    subst (λ (n : ℕ). Filled os a.from a.out.now l.out (record { next = n; len = l.len })) e
+    (record {
+      written = w;
+      end = paged-last os (length a.out.now) a.from l.next l.len l.invariant.1 (omega (arith, past, count));
+      progress = λ h r. omega (arith, past, count);
+    })

@@ -1,7 +1,5 @@
 -- `text::page::fill` meets its contract: a line a turn, as long as there is an instruction and room for any line.
-use Prim.Native.Nat.{◌-◌, ◌/◌}
 use lib.ListN.{length}
-use Rattle.cells.specs.Limits.{words_each}
 use Rattle.code.specs.Op.{instructions}
 use Rattle.text.specs.Page.{PageWritten}
 use Rattle.text.proofs.Filling.{Paged}
@@ -10,6 +8,3 @@ use Rattle.text.proofs.page.fill.Given as goal
 abbrev pub invariant-loop-next : goal.invariant-loop-next
 invariant-loop-next l =
     PageWritten (instructions l.code) l.from l.initial.out l.out l.next l.len × Paged (instructions l.code) (length l.initial.out) l.from l.next l.len
-
-abbrev pub decreases-loop-next : goal.decreases-loop-next
-decreases-loop-next l = length l.code / words_each - l.next

@@ -1,20 +1,28 @@
--- `text::page::lay` meets its contract: a byte a turn.
-use Prim.Native.Nat.{◌-◌}
-use mathlib.Core.Path.{◌≡◌}
+-- `text::page::lay` meets its contract: the line's bytes are copied to their place.
+use Prim.Native.Nat.{◌+◌, ◌-◌}
+use mathlib.Core.Path.{◌≡◌, refl, ap, ◌∙◌}
+use mathlib.Core.List.{List, ◌++◌}
 use native.Mathlib.Omega.{arith}
-use lib.ListN.{length}
+use lib.ListN.{length, take, drop}
+use lib.Seq.{take_all, length-take-le}
 use borrow.Author.Rules.{rules}
-use Rattle.text.specs.Line.{room}
-use Rattle.text.proofs.Laying.{laying-more, laid}
+use Prim.Native.Nat.{ℕ}
+use Rattle.std.proofs.lemmas.Slice.{put_mid-paste}
+use Rattle.text.specs.Line.{room, text_of}
 use Rattle.text.proofs.page.lay.Goals as goal
 
-pub loop-i-preserved : goal.loop-i-preserved
-loop-i-preserved c =
-    let whole : length c.args.line.bytes ≡ room = search rules in
-    laying-more c.args.out.now c.args.at c.args.line.bytes c.args.line.len c.loop-i.out c.loop-i.i c.loop-i-test.true
-    (omega (arith, c.requires.room_in_bounds, c.requires.len_le_room, c.loop-i-test.true)) (omega (arith, c.requires.len_le_room, c.loop-i-test.true)) c.loop-i.invariant
-
 pub returns : goal.returns
+unfolding text_of
 returns c =
     let a = c.args in
-    laid a.out.now a.at a.line c.loop-i.out c.loop-i.i c.loop-i-test.false c.loop-i.invariant
+    let out = a.out.now in
+    let line = a.line in
+    let whole : length line.bytes ≡ room = search rules in
+    let len : length (take line.len line.bytes) ≡ line.len = length-take-le line.len line.bytes (omega (arith, c.requires.len_le_room)) in
+    record {
+      end = refl;
+      text =
+          put_mid-paste a.at ((a.at + line.len) - a.at) out c.copy_from_slice.new.self (take line.len line.bytes) line.len
+          c.copy_from_slice.ensures.after (omega arith) (omega arith)
+          ∙ ap (λ (l : List ℕ). take a.at out ++ l ++ drop (a.at + line.len) out) (take_all line.len (take line.len line.bytes) (omega arith));
+    }

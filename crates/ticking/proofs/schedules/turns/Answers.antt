@@ -1,11 +1,11 @@
 -- `ticking::schedules::turns` meets its contract: each search begins where the block of the supplier before ends.
-use Rattle.std.proofs.Common.{◌≡◌, ◌-◌, length, arith, rules}
+use Rattle.std.proofs.Common.{◌≡◌, length, arith, rules}
 use Rattle.cells.specs.Limits.{suppliers}
 use Rattle.ticking.proofs.Walking.{walk-begun, walk_more, walk-ended}
 use Rattle.ticking.proofs.schedules.turns.Goals as goal
 
 pub loop-j-init : goal.loop-j-init
-loop-j-init c = (search rules, search rules, λ o. walk-begun _ _ c.of.result c.of.ensures)
+loop-j-init c = (search rules, search rules, λ o. walk-begun _ _)
 
 pub loop-j-preserved : goal.loop-j-preserved
 loop-j-preserved c =

@@ -1,5 +1,5 @@
 -- `ticking::values::copied` meets its contract: from every row on, the copies left come to what all copies come to.
-use Rattle.std.proofs.Common.{◌-◌, ◌∙◌, rules}
+use Rattle.std.proofs.Common.{◌∙◌, rules}
 use Rattle.ticking.proofs.Rowwise.{rows_more, rows-ended}
 use Rattle.ticking.proofs.Assigned.{copies-all}
 use Rattle.ticking.proofs.values.copied.Goals as goal

@@ -1,5 +1,5 @@
 -- `ticking::values::copied` meets its contract: from every row on, the copies left come to what all copies come to.
-use Rattle.std.proofs.Common.{◌≡◌, ◌-◌, length}
+use Rattle.std.proofs.Common.{◌≡◌, length}
 use Rattle.cells.specs.Cell.{rows_in}
 use Rattle.cells.specs.Limits.{max_ports}
 use Rattle.program.specs.Tables.{Tables, copy_width}
@@ -13,6 +13,3 @@ invariant-loop-i l =
     (length l.next ≡ max_ports)
     × ((T : Tables) → T.copies ≡ l.copies
     → RowsPut (is_copy_of T l.d.0) (copy_put T l.values) (rows_in copy_width l.copies) l.values l.i l.next)
-
-abbrev pub decreases-loop-i : goal.decreases-loop-i
-decreases-loop-i l = rows_in copy_width l.copies - l.i

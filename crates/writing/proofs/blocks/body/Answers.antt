@@ -1,20 +1,25 @@
 -- `writing::blocks::body` meets its contract: the schedules stand behind the drivers.
 use native.Mathlib.Omega.{arith}
+use Rattle.program.specs.Tables.{invocation_width}
 use Rattle.words.specs.Written.{written}
-use Rattle.writing.specs.Rows.{form_rows}
-use Rattle.writing.specs.declared.rows.Form.TheVariants.{TaskDriver, Schedule}
+use Rattle.writing.specs.Rows.{driver_in, drivers_in, schedules_in}
 use Rattle.words.proofs.Written.{writes_then, written_at}
-use Rattle.writing.proofs.Parts.{form-most}
+use Rattle.writing.proofs.Parts.{due-most}
 use Rattle.writing.proofs.blocks.body.Goals as goal
 
-pub due-requires : goal.due-requires
-due-requires c =
+pub schedules-requires : goal.schedules-requires
+schedules-requires c =
     let a = c.args in
-    let there = written_at (written a.code.now a.at) (form_rows TaskDriver a.invocations.now a.when) c.due-schedules_at.ensures in
-    omega (arith, there, form-most TaskDriver a.invocations.now a.when, c.requires)
+    let t = a.invocations.now in
+    omega (
+      arith,
+      written_at (written a.code.now a.at) (drivers_in t a.when) c.drivers-schedules_at.ensures,
+      due-most invocation_width t a.when (driver_in t),
+      c.requires,
+    )
 
 pub returns : goal.returns
 returns c =
     let a = c.args in
-    writes_then (written a.code.now a.at) (form_rows TaskDriver a.invocations.now a.when) (form_rows Schedule a.invocations.now a.when)
-    c.due-schedules_at.ensures c.due.ensures
+    let t = a.invocations.now in
+    writes_then (written a.code.now a.at) (drivers_in t a.when) (schedules_in t a.when) c.drivers-schedules_at.ensures c.schedules.ensures

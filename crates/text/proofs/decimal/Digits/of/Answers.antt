@@ -1,7 +1,9 @@
 -- `text::decimal::Digits::of` meets its contract: the digits are written from the last to the first.
+use Prim.Native.Nat.{ℕ}
+use mathlib.Core.Path.{◌≡◌, subst}
 use native.Mathlib.Omega.{arith}
 use lib.ListN.{length-set}
-use Rattle.text.specs.Digits.{digits_in}
+use Rattle.text.specs.Digits.{digits_in, Spelled}
 use Rattle.text.proofs.Decimals.{digits-place, front_kept, writing_more, writing-last, writing-full}
 use Rattle.text.proofs.decimal.Digits.of.Goals as goal
 
@@ -28,9 +30,11 @@ unfolding digits_in
 returns c =
     let s = c.loop-from in
     let digits = writing-full _ s.bytes s.from s.rest c.loop-from-test.false s.invariant in
-    record {
+    let e : s.from ≡ 0 = omega arith in
+    subst (λ (k : ℕ). Spelled c.args.n (record { bytes = s.bytes; from = k })) e
+    (record {
       digits = digits;
       front = s.invariant.front;
       place = digits-place c.args.n _ _ s.invariant.within s.invariant.whole digits;
       whole = s.invariant.whole;
-    }
+    })

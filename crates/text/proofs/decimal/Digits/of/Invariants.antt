@@ -4,6 +4,3 @@ use Rattle.text.proofs.decimal.Digits.of.Given as goal
 
 abbrev pub invariant-loop-from : goal.invariant-loop-from
 invariant-loop-from l = Writing l.n l.bytes l.from l.rest
-
-abbrev pub decreases-loop-from : goal.decreases-loop-from
-decreases-loop-from l = l.from

@@ -1,11 +1,7 @@
 -- `text::line::Line::word` meets its contract: after i turns the first i bytes are appended.
-use Prim.Native.Nat.{◌-◌, ◌≤◌}
-use lib.ListN.{length, take}
+use lib.ListN.{take}
 use Rattle.text.specs.Line.{Appended}
 use Rattle.text.proofs.line.Line.word.Given as goal
 
-abbrev pub invariant-loop-i : goal.invariant-loop-i
-invariant-loop-i l = (l.i ≤ length l.more) × Appended l.initial.next l.next (take l.i l.more)
-
-abbrev pub decreases-loop-i : goal.decreases-loop-i
-decreases-loop-i l = length l.more - l.i
+abbrev pub invariant-loop-b : goal.invariant-loop-b
+invariant-loop-b l = Appended l.initial.self l.self (take l.b-index l.more)

@@ -1,0 +1,2 @@
+-- What a call comes to, in numbers.
+pub mod Answers

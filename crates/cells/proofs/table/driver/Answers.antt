@@ -1,6 +1,0 @@
--- `cells::table::driver` meets its contract: the driver that the number of the column names.
-use Rattle.cells.proofs.Place.{named}
-use Rattle.cells.proofs.table.driver.Goals as goal
-
-pub returns : goal.returns
-returns c = named _ _ c.field.ensures c.of.ensures

@@ -1,6 +1,0 @@
--- `cells::table::mode` meets its contract: the mode that the number of the column names.
-use Rattle.cells.proofs.Place.{named}
-use Rattle.cells.proofs.table.mode.Goals as goal
-
-pub returns : goal.returns
-returns c = named _ _ c.field.ensures c.of.ensures

@@ -1,0 +1,2 @@
+-- A question asked of a port.
+pub mod Asked

@@ -1,2 +1,0 @@
--- The tables by their place, as the searches go through them.
-pub mod Rows

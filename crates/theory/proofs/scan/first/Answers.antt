@@ -1,0 +1,18 @@
+-- `theory::scan::first` meets its contract: what a call of the test answers is what p says of its number.
+use mathlib.Core.Path.{sym, ◌∙◌}
+use Rattle.theory.proofs.Search.{passed_none, passed-more, lowest-found, lowest-none}
+use Rattle.theory.proofs.scan.first.Goals as goal
+
+pub loop-k-init : goal.loop-k-init
+loop-k-init g c p t = passed_none _ _
+
+pub returns-then-test-clause-row : goal.returns-then-test-clause-row
+returns-then-test-clause-row g c p t =
+    sym (lowest-found _ _ _ (c.loop-k.invariant p t) c.loop-k-test.true (sym (t _ c.loop-k-test.true _ c.test.ensures) ∙ c.if-test.true))
+
+pub loop-k-preserved : goal.loop-k-preserved
+loop-k-preserved g c p t =
+    passed-more _ _ _ (c.loop-k.invariant p t) c.loop-k-test.true (sym (t _ c.loop-k-test.true _ c.test.ensures) ∙ c.if-test.false)
+
+pub returns-clause-row : goal.returns-clause-row
+returns-clause-row g c p t = sym (lowest-none _ _ _ (c.loop-k.invariant p t) c.loop-k-test.false)
