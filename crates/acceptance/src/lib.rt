@@ -21,6 +21,7 @@ use rules_1_2::slices;
 use suppliers::{parts, window_rows};
 
 // Number 1 applies to the tables or the windows, whatever the start mode.
+#[tactic(auto, unfolding(suppliers::specs::Windows::windows_shape_bad))]
 fn shape_bad(tables: &ProgramTables, windows: &[i32]) -> bool
     ensures { (start : ℤ) → let T = tables_in tables.now start in
         result ≡ windows_shape_bad (windowed T windows.now) }

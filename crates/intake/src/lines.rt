@@ -20,6 +20,7 @@ fn begun(i: Intake, z: i32) -> Intake
 }
 
 // A number of the latest table is put at the next free place of the room. Where there is none, the text is refused.
+#[tactic(auto, unfolding(crate::specs::Line::stored_of))]
 fn stored(i: Intake, z: i32, room: &mut [i32]) -> Intake
     requires { 0 < i.left }
     ensures { fed result room.new ≡ stored_of (fed i room.old) z }

@@ -22,6 +22,7 @@ pub const ROOM: usize = Program::PORTS * port::WIDTH
     + Program::SWITCHES * switch::WIDTH;
 
 // How many numbers a row of a table has; past the last table 0.
+#[tactic(auto, unfolding(crate::specs::Shapes::shape_at))]
 pub fn width(place: usize) -> usize
     ensures { result ≡ (shape_at place).width }
 {
@@ -29,6 +30,7 @@ pub fn width(place: usize) -> usize
 }
 
 // The most rows of a table; past the last table 0.
+#[tactic(auto, unfolding(crate::specs::Shapes::shape_at))]
 pub fn limit(place: usize) -> usize
     ensures { result ≡ (shape_at place).limit }
 {
