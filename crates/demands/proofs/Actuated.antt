@@ -16,7 +16,7 @@ use Rattle.program.specs.Tables.{Tables, invocation_count, invocation_mode, invo
 use Rattle.program.specs.Tables.{update_driver, switch_frequency}
 use Rattle.program.specs.Sets.{Actuator}
 use Rattle.program.specs.Units.{units, due, Frequency, Multiple}
-use Rattle.program.specs.Program.{program_of, task, mode}
+use Rattle.program.specs.Program.{program_of, task}
 use Rattle.program.specs.Ports.{value_of, values_of}
 use Rattle.program.proofs.Guards.{always-holds}
 use Rattle.rules.specs.Fields.{InvocationFits}

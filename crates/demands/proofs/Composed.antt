@@ -22,7 +22,7 @@ use Rattle.composed.specs.Sound.{Sound}
 use Rattle.composed.specs.Suited.{Suited}
 use Rattle.composed.specs.Related.{Related}
 use Rattle.composed.proofs.Run.{related-tick}
-use Rattle.demands.specs.Composed.{System, compiling, Accepted, joined, code, advanced, state_at, readings, configuration_at}
+use Rattle.demands.specs.Composed.{System, compiling, Accepted, joined, code, advanced, state_at, configuration_at}
 use Rattle.demands.specs.Composed.{SuitedAt, Right, ComposedRun, SameValues}
 use Rattle.demands.specs.Relation.{RelationKept, RelatedAlways}
 use Rattle.demands.proofs.Sound.{accepted-sound}

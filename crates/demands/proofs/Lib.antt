@@ -1,5 +1,6 @@
 -- The demands, proved.
 pub mod Calls
+pub mod Outcomes
 pub mod Machine
 pub mod Uses
 pub mod Verdict

@@ -19,7 +19,6 @@ use Rattle.rules.specs.Verdict.{program_rules}
 use Rattle.rules.proofs.Accepted.{accepted-task-ports, accepted-copies, accepted-mode-ports}
 use Rattle.rules.proofs.Verdict.{program-accepted}
 use Rattle.giotto.specs.Instant.{Configuration, Function, results}
-use Rattle.giotto.specs.Successor.{Successor}
 use Rattle.giotto.proofs.Execution.{execution-succeeds, execution-waits}
 use Rattle.giotto.proofs.Private.{private-enters, private-stays}
 use Rattle.machine.specs.Advance.{Lent}

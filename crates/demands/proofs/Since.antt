@@ -1,9 +1,8 @@
 -- The response to a missing reading, counted from the first one: it has a file of its own, so that it stands on what proofs/Response says.
-use Prim.Native.Nat.{ℕ, zero, suc, ◌+◌, ◌-◌, ◌≤◌, ◌<◌}
+use Prim.Native.Nat.{ℕ, zero, suc, ◌+◌, ◌≤◌, ◌<◌}
 use mathlib.Core.Path.{subst}
 use native.Mathlib.Omega.{arith}
 use Rattle.program.specs.Tables.{Tables}
-use Rattle.program.specs.Program.{mode}
 use Rattle.rules.specs.Missing.{ForMissing}
 use Rattle.rules.proofs.Verdict.{program-accepted}
 use Rattle.giotto.specs.Instant.{Configuration}

@@ -1,5 +1,6 @@
 -- The demands, as statements about the definitions. An assessor starts here.
 pub mod Calls
+pub mod Outcomes
 pub mod Machine
 pub mod Uses
 pub mod Verdict
