@@ -54,7 +54,7 @@ told = [
     ("1 a flag or a number beside a value", count(r"^ +(pub )?[a-z_]+: bool,|^ +pub number: usize,")),
     ("1 numbers of refusals, kinds, instructions", count(rf"^ *pub const {named}: usize", ["cells"])
      + sum(bool(re.search(r"^ *pub const [A-Z_]+: usize = \d+;", l)) for f, l in lines if re.search(r"cells/src/refusals|code/src/numbers", f))),
-    ("1 a number compared with acceptance", count(r"ACCEPTED < ")),
+    ("1 a number compared with acceptance", count(r"ACCEPTED < |!= refusals::ACCEPTED")),
     ("1 searches that answer the count where none", count(r"^ {4}n$")),
     ("2 groups of twins, functions in them", (len(pairs), sum(map(len, pairs)))),
     ("3 while and loop", count(r"^ *(while|loop)\b")),

@@ -67,6 +67,17 @@ pub fn later(shown: Shown, from: usize, code: &[u32], buffer: &mut [u8]) -> Shee
     }
 }
 
+// The page that comes next: what the answer begins with, or the lines from an instruction on, or none behind the last.
+pub fn page(shown: Shown, begun: bool, from: usize, code: &[u32], buffer: &mut [u8]) -> Sheet
+    requires { room ≤ length buffer.old }
+    ensures { spread result buffer.new ≡ page_of (answered shown code.now) begun from buffer.old }
+{
+    if begun {
+        return later(shown, from, code, buffer);
+    }
+    first(shown, buffer)
+}
+
 // What of a page is still to be written.
 pub fn rest(sheet: Sheet, buffer: &[u8]) -> &[u8]
     ensures { result.now ≡ rest_of (spread sheet buffer.now) }

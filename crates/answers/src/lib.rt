@@ -1,8 +1,9 @@
 // What a call comes to: accepted, or refused, with a place or without one; and the answer that says so in numbers.
 #![tactic(auto)]
 
-ghost use Rattle.std.specs.Prelude.{◌≡◌, ℕ, Bool, Some, None};
+ghost use Rattle.std.specs.Prelude.{◌≡◌, ℕ, Bool, Some, None, cond};
 ghost use Rattle.theory.specs.Rows.{at_row, placeless};
+ghost use Rattle.theory.specs.Verdict.{accepted_number, found_at};
 ghost use Rattle.answers.specs.Answers.{answer_of, told_where, told_at};
 
 use cells::refusals::{ACCEPTED, Refusal};
@@ -68,5 +69,33 @@ pub fn refused_at(row: Option<usize>, refusal: Refusal, table: usize) -> Result<
             inner,
         }),
         None => Ok(()),
+    }
+}
+
+// This number, whichever it is, without a place where it applies; else accepted.
+pub fn where_applies(number: usize, applies: bool) -> Answer
+    ensures { result ≡ cond applies (placeless number) (placeless accepted_number) }
+{
+    if !applies {
+        return answer(Ok(()));
+    }
+    Answer {
+        number,
+        outer: 0,
+        inner: 0,
+    }
+}
+
+// What a search over so many rows of a table comes to: this number at the row where it ended, or accepted where it found none.
+pub fn found(number: usize, table: usize, row: usize, count: usize) -> Answer
+    ensures { result ≡ found_at number table row count }
+{
+    if count <= row {
+        return answer(Ok(()));
+    }
+    Answer {
+        number,
+        outer: table,
+        inner: row,
     }
 }

@@ -1,7 +1,9 @@
 // A stream of lines, read out of a file through a buffer that goes with it.
 use crate::error::CaseError;
+use cells::parts;
 use std::fs::File;
 use std::io::Read;
+use std::ops::ControlFlow;
 use text::number::Part;
 
 // How many bytes of a file are read at once at most.
@@ -17,6 +19,18 @@ pub struct Source {
     at: usize,
 }
 
+// What was read of a line after these bytes more; where the line ends among them, the line, and how many of them are its.
+fn fed(mut part: Part, bytes: &[u8]) -> ControlFlow<(Part, usize), Part> {
+    for n in 0..bytes.len() {
+        let b = bytes[n];
+        if b == b'\n' {
+            return ControlFlow::Break((part, n + 1));
+        }
+        part = part.feed(b);
+    }
+    ControlFlow::Continue(part)
+}
+
 impl Source {
     // An open file, before its first byte is read.
     pub fn new(file: File) -> Source {
@@ -28,29 +42,32 @@ impl Source {
         }
     }
 
-    // The next byte of the file, if there is one.
-    fn byte(&mut self) -> Result<Option<u8>, CaseError> {
+    // The bytes that were read and are not used up; where there are none, the file is read on.
+    fn rest(&mut self) -> Result<&[u8], CaseError> {
         if self.len <= self.at {
             self.len = self.file.read(&mut self.buffer).map_err(CaseError::Unread)?;
             self.at = 0;
         }
-        if self.len <= self.at {
-            return Ok(None);
-        }
-        let next = self.buffer.get(self.at).copied();
-        self.at += 1;
-        Ok(next)
+        Ok(parts::part(&self.buffer, self.at, self.len.saturating_sub(self.at)))
     }
 
-    // The next line as a number, if there is a line; the last line end may be missing. A line of more bytes than can be counted is bad.
+    // The next line as a number, if there is a line; the last line end may be missing. A line of more pieces than can be counted is bad.
     pub fn line(&mut self) -> Result<Option<Part>, CaseError> {
         let mut part = Part::Start;
         for _ in 0..u64::MAX {
-            match self.byte()? {
-                Some(b'\n') => return Ok(Some(part)),
-                Some(b) => part = part.feed(b),
-                None if part == Part::Start => return Ok(None),
-                None => return Ok(Some(part)),
+            let rest = self.rest()?;
+            if rest.is_empty() {
+                return Ok((part != Part::Start).then_some(part));
+            }
+            match fed(part, rest) {
+                ControlFlow::Continue(longer) => {
+                    part = longer;
+                    self.at = self.len;
+                }
+                ControlFlow::Break((line, n)) => {
+                    self.at = self.at.saturating_add(n);
+                    return Ok(Some(line));
+                }
             }
         }
         Err(CaseError::Bad)

@@ -26,8 +26,7 @@ pub fn slice<'a, T: Number>(source: &mut Source, out: &'a mut [T]) -> Result<&'a
         let number = T::read(source)?;
         table::put(out, i, number);
     }
-    let kept = n.min(out.len());
-    Ok(&out[..kept])
+    Ok(part(out, 0, n))
 }
 
 // Reads a program: its start mode, then its ten tables, each into its place in the room.

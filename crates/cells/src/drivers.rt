@@ -17,6 +17,13 @@ pub fn declared(drivers: &[i32], d: Driver) -> bool
     d.index() < drivers.len() / driver::WIDTH
 }
 
+// The number of the kind of guard that driver d has, also one that is no kind.
+pub fn guard(drivers: &[i32], d: Driver) -> usize
+    ensures { result ≡ field_at driver_width guard_kind_column drivers.now d.0 }
+{
+    table::field(drivers, driver::WIDTH, d.index(), driver::KIND)
+}
+
 // The guard of driver d is of this kind.
 pub fn is(drivers: &[i32], d: Driver, k: GuardKind) -> bool
     ensures { result ≡ eqb (field_at driver_width guard_kind_column drivers.now d.0) (guard_kind_number k) }

@@ -4,8 +4,8 @@ ghost use Rattle.cells.specs.Limits.{words_each};
 
 use crate::limits::Program;
 
-// The n numbers of a room from a place on, or as many as there are.
-pub fn part(room: &[i32], at: usize, n: usize) -> &[i32]
+// The n numbers or words of a room from a place on, or as many as there are.
+pub fn part<T>(room: &[T], at: usize, n: usize) -> &[T]
     ensures { result.now ≡ take n (drop at room.now) }
 {
     let from = at.min(room.len());

@@ -48,10 +48,14 @@ module _ (T : Tables) (sensors : ℕ) where
           sum-most (size_in T sensors) most_mode m (λ i l. mode-most _ _ _ _ i (units T i) few s (units T i) (units-within T i)),
         )
 
+    -- a mode that begins where the modes before it end is within the longest code
+    pub start-near : (m : ℕ) {at : ℕ} → m < max_modes → at ≡ start_in T sensors m → at + most_mode ≤ most_code
+    start-near m h q = omega (arith, h, q, start-most m)
+
   -- a declared mode that begins where the modes before it end is within the longest code, where number 1 passes the tables
   pub mode-near : shape_bad T ≡ false → sensors ≤ max_ports → (m : ℕ) {at : ℕ} → m < mode_count T → at ≡ start_in T sensors m
       → at + most_mode ≤ most_code
-  mode-near e s m h q = omega (arith, h, q, few-modes T e, start-most (few-rows T e) s m)
+  mode-near e s m h q = start-near (few-rows T e) s m (omega (arith, h, few-modes T e)) q
 
   -- the program that the tables say
   abbrev P : Program

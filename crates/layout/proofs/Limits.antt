@@ -1,9 +1,9 @@
 -- Sizes within document 01's limits: of a block, of a mode, of the units; and tables that number 1 passes are within them.
 -- Assumes of the tables that they have no more rows than the limits (`Few`), and no more sensors.
 use Prim.Native.Nat.{ℕ, suc, ◌≤◌, ◌<◌}
-use mathlib.Core.Path.{◌≡◌, refl, sym, subst, ◌∙◌}
+use mathlib.Core.Path.{◌≡◌, sym, subst, ◌∙◌}
 use mathlib.Core.Bool.{false}
-use mathlib.Core.List.{List, []}
+use mathlib.Core.List.{List}
 use native.Mathlib.Nat.{le_trans}
 use native.Mathlib.Omega.{arith}
 use lib.IntN.{ℤ, pos}

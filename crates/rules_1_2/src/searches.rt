@@ -1,6 +1,6 @@
 // Number 2 over whole tables: the lowest bad row of the first table that has one; then the start mode.
-ghost use Rattle.std.specs.Prelude.{◌≡◌, ◌<◌, ℕ, ℤ, Bool, [], ◌∷◌};
-ghost use Rattle.theory.specs.Search.{Tests};
+ghost use Rattle.std.specs.Prelude.{◌≡◌, ◌<◌, ◌≤◌, ℕ, ℤ, Bool, [], ◌∷◌};
+ghost use Rattle.theory.specs.Search.{Tests, lowest_passing};
 ghost use Rattle.theory.specs.Rows.{testing};
 ghost use Rattle.theory.specs.Verdict.{rows_answer};
 ghost use Rattle.cells.specs.Refusals.{fields_refused};
@@ -8,6 +8,7 @@ ghost use Rattle.answers.specs.Answers.{answer_of};
 ghost use Rattle.program.specs.Tables.{tables_in, rows_at};
 ghost use Rattle.rules.specs.Shape.{InShape};
 ghost use Rattle.rules.specs.Fields.{field_tests};
+ghost use Rattle.rules_1_2.specs.Rows.{row_bad};
 
 use crate::ranges;
 use answers::Refused;
@@ -18,6 +19,42 @@ use cells::tables;
 use cells::tables::ProgramTables;
 use program::rows;
 use theory::scan;
+
+// A row of the table at a place is bad.
+fn row_bad(tables: &ProgramTables, place: usize, row: usize) -> bool
+    requires in_shape { InShape tables.now }
+    requires row_bound { (start : ℤ) → row < rows_at (tables_in tables.now start) place }
+    ensures { (start : ℤ) → result ≡ row_bad (tables_in tables.now start) place row }
+{
+    match place {
+        tables::PORTS => ranges::port_bad(tables.ports, Port::of(row)),
+        tables::TASKS => ranges::task_bad(tables.tasks, Task::of(row)),
+        tables::TASK_PORTS => ranges::task_port_bad(tables, row),
+        tables::DRIVERS => ranges::driver_bad(tables, Driver::of(row)),
+        tables::COPIES => ranges::copy_bad(tables, row),
+        tables::MODES => ranges::mode_bad(tables.modes, Mode::of(row)),
+        tables::MODE_PORTS => ranges::mode_port_bad(tables, row),
+        tables::INVOCATIONS => ranges::invocation_bad(tables, row),
+        tables::UPDATES => ranges::update_bad(tables, row),
+        tables::SWITCHES => ranges::switch_bad(tables, row),
+        _ => false,
+    }
+}
+
+// The lowest bad row among the first n rows of the table at a place, if there is one.
+pub fn first_bad(tables: &ProgramTables, place: usize, n: usize) -> Option<usize>
+    requires in_shape { InShape tables.now }
+    requires n_bound { (start : ℤ) → n ≤ rows_at (tables_in tables.now start) place }
+    ensures { (start : ℤ) → result ≡ lowest_passing (row_bad (tables_in tables.now start) place) n }
+{
+    // A loop of its own: a search is lent a test of any row, and this one asks that the row is of the table.
+    for row in 0..n {
+        if row_bad(tables, place, row) {
+            return Some(row);
+        }
+    }
+    None
+}
 
 // Refused at the lowest bad row of a table, if it has one.
 fn all_good<F: Fn(usize) -> bool>(

@@ -1,7 +1,7 @@
 -- Where the block of a supplier at an address stands in a schedule; on a sorted one the part found there is the block.
 -- Assumes, of the block, that the schedule is sorted and that no row of the block stands before where the search begins.
 use Prim.Native.Nat.{ℕ, suc, ◌+◌, ◌-◌, ◌*◌, ◌≤◌, ◌<◌}
-use mathlib.Core.Path.{◌≡◌, sym, ap, subst, ◌∙◌}
+use mathlib.Core.Path.{◌≡◌, refl, sym, ap, subst, ◌∙◌}
 use mathlib.Core.Bool.{Bool, true, false, ◌&&◌}
 use mathlib.Core.List.{List}
 use mathlib.Core.Logic.{◌⊎◌, inl, inr, ⊎_elim}
@@ -49,6 +49,11 @@ pub behind-supplier : (S : List ℤ) (s r a b n : ℕ) → s < r → Behind S s 
 behind-supplier S s r a b n l h i k =
     is_false (reaches-says S r b i)
     (λ w. (reaches-says S s a i).no (h i k) (inl (⊎_elim (λ v. omega arith) (λ v. omega arith) w)))
+
+-- two searches, the second from where the first ended and for the next address, find the block
+pub found-is : (S : List ℤ) (s a from begin end next : ℕ) → next ≡ suc a → begin ≡ reach S from s a → end ≡ reach S begin s next
+    → record { begin = begin; end = end } ≡ found S from s a
+found-is S s a from begin end next n b e = simp (e, n, b) refl
 
 -- the rows found as the block are rows of the schedule, from `from` on
 pub found_within : (S : List ℤ) (s a from : ℕ) → from ≤ schedule_count S

@@ -5,10 +5,13 @@ ghost use Rattle.text.specs.Decimal.{negative, not_negative, as_word};
 ghost use Rattle.text.specs.Part.{digits_after, part_after, signed_as, word_as, signed_of, word_in};
 
 // No number of 32 bits is so large; a larger value is held at this one.
-const TOO_LARGE: usize = 4294967296;
+pub const TOO_LARGE: usize = 4294967296;
 
-// How far the least signed number is from 0.
-const FARTHEST: usize = 2147483648;
+// The greatest signed number; the least one is one further from 0.
+pub const FARTHEST: usize = 2147483647;
+
+// The least signed number.
+pub const LEAST: i32 = -2147483648;
 
 // What was read of a line.
 #[derive(Clone, Copy, Debug, PartialEq, Eq)]
@@ -50,7 +53,7 @@ fn from_zero(m: usize) -> Option<i32>
 fn below_zero(m: usize) -> Option<i32>
     ensures { result ≡ signed_as (negative (some m)) }
 {
-    if m == FARTHEST {
+    if m == FARTHEST + 1 {
         return Some(i32::MIN);
     }
     from_zero(m).map(|far| -far)

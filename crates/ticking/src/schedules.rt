@@ -1,8 +1,8 @@
 // One tick of all suppliers' schedules: who runs, number 18, and the state after the tick.
-ghost use Rattle.std.specs.Prelude.{◌≡◌, ◌≤◌, ℤ};
+ghost use Rattle.std.specs.Prelude.{◌≡◌, ◌≤◌};
 ghost use Rattle.cells.specs.Cell.{greatest_word};
 ghost use Rattle.cells.specs.Limits.{max_elapsed};
-ghost use Rattle.program.specs.Tables.{tables_in};
+ghost use Rattle.program.specs.Tables.{Tables};
 ghost use Rattle.program.specs.Program.{program_of};
 ghost use Rattle.runs.specs.Schedule.{Sorted};
 ghost use Rattle.suppliers.specs.Schedule.{Rows};
@@ -57,8 +57,8 @@ fn outputs_after(
     s: State,
     t: Task,
 ) -> [i32; Program::PORTS]
-    ensures { (start : ℤ) → let T = tables_in tables.now start in
-        result ≡ outputs_by T results.now s t.0 }
+    ensures { (T : Tables) → T.ports ≡ tables.now.ports.now → T.task_ports ≡ tables.now.task_ports.now
+        → result ≡ outputs_by T results.now s t.0 }
 {
     let left = s.left;
     let outputs = s.outputs;
@@ -99,8 +99,8 @@ pub fn tick_all(
 ) -> Result<State, Refusal>
     requires current_le_greatest_word { s.current ≤ greatest_word }
     requires elapsed_le_max_elapsed { s.elapsed ≤ max_elapsed }
-    ensures { (start : ℤ) → let T = tables_in tables.now start in
-        Rows T rows.now → advanced_of s result ≡ answer s (tick_all (program_of T) rows.now results.now s) }
+    ensures { (T : Tables) → T.ports ≡ tables.now.ports.now → T.task_ports ≡ tables.now.task_ports.now
+        → Rows T rows.now → advanced_of s result ≡ answer s (tick_all (program_of T) rows.now results.now s) }
 {
     let Shares { running, positions } = turns(rows, s);
     match running {

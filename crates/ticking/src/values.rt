@@ -1,8 +1,8 @@
 // Port values: what a driver, a task and a sensor's reading put among them. No row copies them.
-ghost use Rattle.std.specs.Prelude.{◌≡◌, ◌==◌, slice_set, ℤ};
+ghost use Rattle.std.specs.Prelude.{◌≡◌, ◌==◌, slice_set};
 ghost use Rattle.theory.specs.Lists.{puts, each};
 ghost use Rattle.cells.specs.Limits.{max_ports};
-ghost use Rattle.program.specs.Tables.{tables_in, Tables, port_first, copy_driver};
+ghost use Rattle.program.specs.Tables.{Tables, port_first, copy_driver};
 ghost use Rattle.program.specs.Sets.{may_give};
 ghost use Rattle.program.specs.Program.{ports_of, driver_row};
 ghost use Rattle.program.specs.Ports.{value_of, assigned, drive};
@@ -46,8 +46,8 @@ pub fn driven(
     d: Driver,
     values: [i32; Program::PORTS],
 ) -> [i32; Program::PORTS]
-    ensures { (start : ℤ) → let T = tables_in tables.now start in
-        result ≡ drive (driver_row T d.0) values }
+    ensures { (T : Tables) → T.drivers ≡ tables.now.drivers.now → T.copies ≡ tables.now.copies.now
+        → result ≡ drive (driver_row T d.0) values }
 {
     if guard::guard_holds(tables.drivers, d, &values) {
         return copied(tables.copies, d, values);
@@ -57,8 +57,8 @@ pub fn driven(
 
 // Row k of the task ports, if task t gives its port, puts what that port has among the given values into the values.
 fn gives_row(tables: &ProgramTables, t: Task, given: &[i32], k: usize, values: &mut [i32])
-    ensures { (start : ℤ) → let T = tables_in tables.now start in
-        values.new ≡ put_row (gives_row T t.0 k) (gives_put T given.now k) values.old }
+    ensures { (T : Tables) → T.ports ≡ tables.now.ports.now → T.task_ports ≡ tables.now.task_ports.now
+        → values.new ≡ put_row (gives_row T t.0 k) (gives_put T given.now k) values.old }
 {
     let own: Task = table::named(tables.task_ports, task_port::WIDTH, k, task_port::TASK);
     let p: Port = table::named(tables.task_ports, task_port::WIDTH, k, task_port::PORT);
@@ -74,8 +74,8 @@ pub fn gives_taken(
     given: &[i32],
     values: [i32; Program::PORTS],
 ) -> [i32; Program::PORTS]
-    ensures { (start : ℤ) → let T = tables_in tables.now start in
-        result ≡ puts (assigned (value_of given.now) (ports_of T (may_give T) t.0)) values }
+    ensures { (T : Tables) → T.ports ≡ tables.now.ports.now → T.task_ports ≡ tables.now.task_ports.now
+        → result ≡ puts (assigned (value_of given.now) (ports_of T (may_give T) t.0)) values }
 {
     let n = tables.task_ports.len() / task_port::WIDTH;
     let mut next = values;

@@ -1,4 +1,5 @@
 // The kind of a file, by the last component of its path, up to the first dot.
+ghost use Rattle.std.specs.Prelude.{◌≤◌, length};
 
 // What a file holds: what the shipped program reads, or cases of a kind.
 #[derive(Clone, Copy, Debug, PartialEq, Eq)]
@@ -20,7 +21,9 @@ pub enum Cases {
 }
 
 // The last component of a path.
-fn last(name: &[u8]) -> &[u8] {
+fn last(name: &[u8]) -> &[u8]
+    ensures { length result.now ≤ length name.now }
+{
     match name.iter().rposition(|b| *b == b'/') {
         Some(slash) => &name[slash + 1..],
         None => name,
@@ -28,7 +31,9 @@ fn last(name: &[u8]) -> &[u8] {
 }
 
 // A name up to its first dot.
-fn stem(name: &[u8]) -> &[u8] {
+fn stem(name: &[u8]) -> &[u8]
+    ensures { length result.now ≤ length name.now }
+{
     match name.iter().position(|b| *b == b'.') {
         Some(dot) => &name[..dot],
         None => name,

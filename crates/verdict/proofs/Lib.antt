@@ -1,2 +1,3 @@
--- What is asked one after the other.
+-- What is asked one after the other, by its place and by its number.
+pub mod Asked
 pub mod Parts

@@ -4,7 +4,6 @@ use Rattle.std.specs.Prelude.{ℕ, ◌+◌, ◌*◌, List, [], ◌∷◌}
 use Rattle.std.proofs.lemmas.List.Edits.{sets}
 use Rattle.cells.specs.Limits.{words_each}
 use Rattle.code.specs.Op.{Op, call, schedule, branch, jump, future, return, faulty}
-use Rattle.code.specs.Opcodes.{opcode_number}
 use Rattle.code.specs.Op.{call_number, schedule_number, if_number, jump_number, future_number, return_number, no_number}
 use Rattle.words.specs.declared.Instruction.{Instruction}
 
@@ -20,7 +19,7 @@ instruction number first second = record { number = number; first = first; secon
 
 -- the three words of an instruction that the code makes
 abbrev pub words_in : Instruction → Words
-words_in o = instruction (opcode_number o.opcode) o.first o.second
+words_in o = instruction o.number o.first o.second
 
 -- the three words of an instruction of E code
 abbrev pub three : Op → Words

@@ -13,24 +13,32 @@ use cells::limits::Program;
 use cells::table;
 use code::opcode::Opcode;
 
-// An instruction: what it does, and its other two words.
+// An instruction: the number of what it does, and its other two words.
 #[derive(Clone, Copy)]
 pub struct Instruction {
-    opcode: Opcode,
+    number: u32,
     first: u32,
     second: u32,
 }
 
 impl Instruction {
-    // An instruction from its three words; those that it does not use are 0.
-    pub fn new(opcode: Opcode, first: u32, second: u32) -> Instruction
-        ensures { words_in result ≡ instruction (opcode_number opcode) first second }
+    // An instruction from any three words, whether 01 has one of this number or not.
+    pub fn of_words(number: u32, first: u32, second: u32) -> Instruction
+        ensures { words_in result ≡ instruction number first second }
     {
         Instruction {
-            opcode,
+            number,
             first,
             second,
         }
+    }
+
+    // An instruction from what it does and its other two words; those that it does not use are 0.
+    pub fn new(opcode: Opcode, first: u32, second: u32) -> Instruction
+        ensures { words_in result ≡ instruction (opcode_number opcode) first second }
+    {
+        // The six numbers of 01 fit a word.
+        Instruction::of_words(usize::from(opcode) as u32, first, second)
     }
 
     // The call that copies the outputs of task t.
@@ -76,7 +84,7 @@ impl Instruction {
         ensures { written code.new result ≡ writes (words_in self ∷ []) (written code.old at) }
     {
         let place = at * Program::WORDS;
-        table::put(code, place, usize::from(self.opcode) as u32);
+        table::put(code, place, self.number);
         table::put(code, place + 1, self.first);
         table::put(code, place + 2, self.second);
         at + 1

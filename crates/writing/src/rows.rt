@@ -62,7 +62,7 @@ fn due<R: Fn(usize) -> Instruction>(
 }
 
 // The output copies of the due tasks are written. The next address is returned.
-pub(crate) fn outputs(code: &mut [u32], at: usize, invocations: &[i32], when: Instant) -> usize
+pub fn outputs(code: &mut [u32], at: usize, invocations: &[i32], when: Instant) -> usize
     requires { at + rows_in invocation_width invocations.now ≤ greatest_word }
     ensures { written code.new result ≡ writes (outputs_in invocations.now when) (written code.old at) }
 {
@@ -73,7 +73,7 @@ pub(crate) fn outputs(code: &mut [u32], at: usize, invocations: &[i32], when: In
 }
 
 // The drivers of the due updates are written. The next address is returned.
-pub(crate) fn updates(code: &mut [u32], at: usize, updates: &[i32], when: Instant) -> usize
+pub fn updates(code: &mut [u32], at: usize, updates: &[i32], when: Instant) -> usize
     requires { at + rows_in update_width updates.now ≤ greatest_word }
     ensures { written code.new result ≡ writes (updates_in updates.now when) (written code.old at) }
 {
@@ -84,7 +84,7 @@ pub(crate) fn updates(code: &mut [u32], at: usize, updates: &[i32], when: Instan
 }
 
 // The drivers of the due tasks are written. The next address is returned.
-pub(crate) fn drivers(code: &mut [u32], at: usize, invocations: &[i32], when: Instant) -> usize
+pub fn drivers(code: &mut [u32], at: usize, invocations: &[i32], when: Instant) -> usize
     requires { at + rows_in invocation_width invocations.now ≤ greatest_word }
     ensures { written code.new result ≡ writes (drivers_in invocations.now when) (written code.old at) }
 {
@@ -95,7 +95,7 @@ pub(crate) fn drivers(code: &mut [u32], at: usize, invocations: &[i32], when: In
 }
 
 // The schedules of the due tasks are written. The next address is returned.
-pub(crate) fn schedules(code: &mut [u32], at: usize, invocations: &[i32], when: Instant) -> usize
+pub fn schedules(code: &mut [u32], at: usize, invocations: &[i32], when: Instant) -> usize
     requires { at + rows_in invocation_width invocations.now ≤ greatest_word }
     ensures { written code.new result ≡ writes (schedules_in invocations.now when) (written code.old at) }
 {

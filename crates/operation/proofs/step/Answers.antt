@@ -44,4 +44,4 @@ returns c z r =
     let u = c.in_ok-begun.begun in
     let between = ready-told P (instructions a.code.now) a.readings.now a.times.now a.s (advanced_of a.s (Ok u)) (c.in_ok-begun.ensures z) refl in
     step-goes P (instructions a.code.now) a.schedule.now (lent_of a.readings.now a.results.now a.times.now) a.s u between
-    (advanced_of u c.tick_all.result) (c.tick_all.ensures z r) c.tick_all.result refl
+    (advanced_of u c.tick_all.result) (c.tick_all.ensures (tables_in a.tables.now z) refl refl r) c.tick_all.result refl

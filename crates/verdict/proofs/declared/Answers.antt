@@ -1,7 +1,7 @@
 -- `verdict::declared` meets its contract: each number of what is declared that does not apply leaves those after it.
 use Rattle.std.specs.Prelude.{Err}
 use Rattle.std.proofs.lemmas.Result.{err_from_is_err_and}
-use mathlib.Core.Path.{refl, ap, ◌∙◌}
+use mathlib.Core.Path.{ap, ◌∙◌}
 use native.Mathlib.Omega.{arith}
 use Rattle.theory.specs.Rows.{testing}
 use Rattle.cells.specs.declared.refusals.Refusal.TheVariants.{TaskPorts, ModePorts}

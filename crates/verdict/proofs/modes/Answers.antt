@@ -1,7 +1,7 @@
 -- `verdict::modes` meets its contract: each number of what the modes do that does not apply leaves those after it.
 use Rattle.std.specs.Prelude.{Err}
 use Rattle.std.proofs.lemmas.Result.{err_from_is_err_and}
-use mathlib.Core.Path.{refl, ap, ◌∙◌}
+use mathlib.Core.Path.{ap, ◌∙◌}
 use mathlib.Core.Bool.{Bool}
 use native.Mathlib.Omega.{arith}
 use Rattle.theory.specs.Rows.{testing}

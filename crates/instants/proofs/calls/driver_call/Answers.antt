@@ -14,4 +14,4 @@ pub returns : goal.returns
 returns c start readings times =
     let T = tables_in c.args.tables.now start in
     driver-done T readings times c.args.s _ _ _ refl c.requires c.of-own.ensures c.declared.ensures _ (ap not c.if-not-declared.false)
-    (c.driven-ports.ensures start)
+    (c.driven-ports.ensures T refl refl)

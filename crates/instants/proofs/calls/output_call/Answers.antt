@@ -20,4 +20,4 @@ pub returns : goal.returns
 returns c start readings times =
     let T = tables_in c.args.tables.now start in
     output-done T readings times c.args.s _ _ _ refl c.requires c.of-own.ensures c.declared.ensures (ap not c.if-not-declared.false)
-    _ _ c.left.ensures c.if-left-gt0.false (c.gives_taken-values.ensures start)
+    _ _ c.left.ensures c.if-left-gt0.false (c.gives_taken-values.ensures T refl refl)

@@ -1,0 +1,2 @@
+-- The tables by their place, as the searches go through them.
+pub mod Rows

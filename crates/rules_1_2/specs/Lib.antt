@@ -1,0 +1,2 @@
+-- Number 2 by the place of a table.
+pub mod Rows
