@@ -4,7 +4,7 @@ ghost use Rattle.cells.specs.Limits.{words_each};
 
 use crate::limits::Program;
 
-// The n numbers or words of a room from a place on, or as many as there are.
+// The n items of a room from a place on, or as many as there are.
 pub fn part<T>(room: &[T], at: usize, n: usize) -> &[T]
     ensures { result.now ≡ take n (drop at room.now) }
 {

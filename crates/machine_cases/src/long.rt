@@ -15,6 +15,7 @@ fn ticks(n: usize, system: System<'_>, state: State, lent: Lent<'_>) -> Handed {
     let mut at = Handed { answer, state };
     for _ in 0..n {
         at = systems::advanced(system, at.state, lent);
+        // An advance answers in numbers.
         if at.answer.number != refusals::ACCEPTED {
             return at;
         }

@@ -12,7 +12,7 @@ use cells::tables::ProgramTables;
 pub fn count(tables: &ProgramTables, place: usize) -> usize
     ensures { (start : ℤ) → result ≡ rows_at (tables_in tables.now start) place }
 {
-    // The one match on the place of a table: `table_at` of the definition is this list.
+    // A match on the place of a table: `table_at` of the definition is this list.
     match place {
         tables::PORTS => tables.ports.len() / port::WIDTH,
         tables::TASKS => tables.tasks.len() / task::WIDTH,

@@ -1,16 +1,20 @@
--- The test of a row by the place of its table: what the test of the table says is what the test of the place says.
+-- The test of a row by the place of its table: what the test of the table says is what the test of the place says; and number 2 is that of
+-- all places, and then of the start mode.
 use Prim.Native.Nat.{ℕ, zero, suc, ◌≤◌, ◌<◌}
-use mathlib.Core.Path.{◌≡◌, sym, ap, ◌∙◌}
+use mathlib.Core.Path.{◌≡◌, refl, sym, ap, ◌∙◌}
 use mathlib.Core.Bool.{Bool, false}
+use mathlib.Core.List.{List, ◌∷◌}
 use mathlib.Core.Logic.{⊎_elim}
 use native.Mathlib.Nat.{eq-or-lt_of_le}
 use native.Mathlib.Omega.{arith}
 use lib.ListN.{get_or, get_or-eq_default}
+use Rattle.theory.specs.Rows.{RowTests, testing}
 use Rattle.cells.specs.Cell.{unnamed, name_of}
 use Rattle.cells.specs.Limits.{table_count}
 use Rattle.cells.proofs.Names.{name-small}
 use Rattle.program.specs.Tables.{Tables, rows_at}
-use Rattle.rules_1_2.specs.Rows.{tests_by_table, row_bad}
+use Rattle.rules.specs.Fields.{field_tests}
+use Rattle.rules_1_2.specs.Rows.{tests_by_table, row_bad, start_tests}
 
 -- what the test of a table says of a row is what the test of its place says
 pub row_at : (T : Tables) (place row : ℕ) {k : ℕ} {b : Bool} → place ≡ k
@@ -39,3 +43,13 @@ NoneBelow (suc n) k = NoneBelow n k × (k ≡ n → ⊥)
 pub none_below : (n k : ℕ) → NoneBelow n k → n ≤ k
 none_below zero k h = omega arith
 none_below (suc n) k h = ⊎_elim (λ e. absurd (h.1 (sym e))) (λ l. l) (eq-or-lt_of_le (none_below n k h.0))
+
+-- number 2 of the tables at n places from i on, and then of the start mode
+abbrev pub tests_from : Tables → ℕ → ℕ → List RowTests
+tests_from T i zero = start_tests T
+tests_from T i (suc n) = testing i (rows_at T i) (row_bad T i) ∷ tests_from T (suc i) n
+
+-- number 2, row by row, is that of the tables at all places, and then of the start mode
+pub fields-by-place : (T : Tables) → tests_from T 0 table_count ≡ field_tests T
+unfolding row_bad
+fields-by-place T = refl

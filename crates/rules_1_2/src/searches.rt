@@ -26,6 +26,7 @@ fn row_bad(tables: &ProgramTables, place: usize, row: usize) -> bool
     requires row_bound { (start : ℤ) → row < rows_at (tables_in tables.now start) place }
     ensures { (start : ℤ) → result ≡ row_bad (tables_in tables.now start) place row }
 {
+    // A match on the place of a table: `first_bad` is asked by it.
     match place {
         tables::PORTS => ranges::port_bad(tables.ports, Port::of(row)),
         tables::TASKS => ranges::task_bad(tables.tasks, Task::of(row)),
@@ -47,7 +48,7 @@ pub fn first_bad(tables: &ProgramTables, place: usize, n: usize) -> Option<usize
     requires n_bound { (start : ℤ) → n ≤ rows_at (tables_in tables.now start) place }
     ensures { (start : ℤ) → result ≡ lowest_passing (row_bad (tables_in tables.now start) place) n }
 {
-    // A loop of its own: a search is lent a test of any row, and this one asks that the row is of the table.
+    // A loop of its own: what a search is lent is proved of any row, and `row_bad` asks that the row is of the table.
     for row in 0..n {
         if row_bad(tables, place, row) {
             return Some(row);

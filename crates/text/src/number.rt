@@ -54,7 +54,7 @@ fn below_zero(m: usize) -> Option<i32>
     ensures { result ≡ signed_as (negative (some m)) }
 {
     if m == FARTHEST + 1 {
-        return Some(i32::MIN);
+        return Some(LEAST);
     }
     from_zero(m).map(|far| -far)
 }

@@ -45,7 +45,7 @@ impl Instruction {
     pub fn output_call(t: Task) -> Instruction
         ensures { words_in result ≡ three (call_output t.0) }
     {
-        // The limits of 01 fit a word, as addresses and opcodes below do.
+        // The limits of 01 fit a word, as addresses below do.
         Instruction::new(Opcode::Call, Program::OUTPUT_CALL as u32 + t.word(), 0)
     }
 
