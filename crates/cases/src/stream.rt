@@ -19,14 +19,33 @@ pub struct Source {
     at: usize,
 }
 
-// What was read of a line after these bytes more; where the line ends among them, the line, and how many of them are its.
-fn fed(mut part: Part, bytes: &[u8]) -> ControlFlow<(Part, usize), Part> {
-    for n in 0..bytes.len() {
-        let b = bytes[n];
-        if b == b'\n' {
-            return ControlFlow::Break((part, n + 1));
+// After digits: what was read of a line after those that these bytes begin with, and the bytes behind them. Where what was read is no
+// digits, no byte is used. It is a loop of its own for speed: `feed` asks at each byte what was read so far, and here that is known.
+fn digits(mut part: Part, bytes: &[u8]) -> (Part, &[u8]) {
+    if !matches!(part, Part::Digits { .. }) {
+        return (part, bytes);
+    }
+    for (n, b) in bytes.iter().enumerate() {
+        if !b.is_ascii_digit() {
+            return (part, &bytes[n..]);
         }
-        part = part.feed(b);
+        part = part.feed(*b);
+    }
+    (part, &[])
+}
+
+// What was read of a line after these bytes more; where the line ends among them, the line, and how many are left behind its end.
+fn fed(mut part: Part, bytes: &[u8]) -> ControlFlow<(Part, usize), Part> {
+    let mut rest = bytes;
+    // each turn uses a byte at least
+    for _ in 0..bytes.len() {
+        let Some((b, more)) = rest.split_first() else {
+            return ControlFlow::Continue(part);
+        };
+        if *b == b'\n' {
+            return ControlFlow::Break((part, more.len()));
+        }
+        (part, rest) = digits(part.feed(*b), more);
     }
     ControlFlow::Continue(part)
 }
@@ -64,8 +83,8 @@ impl Source {
                     part = longer;
                     self.at = self.len;
                 }
-                ControlFlow::Break((line, n)) => {
-                    self.at = self.at.saturating_add(n);
+                ControlFlow::Break((line, left)) => {
+                    self.at = self.len.saturating_sub(left);
                     return Ok(Some(line));
                 }
             }

@@ -41,6 +41,7 @@ fn complain(rt: HostRuntime, name: &[u8], error: io::Error) {
 }
 
 // Answers the cases of an open file. Where they end early for what the file holds, a line says so.
+#[inline(never)]
 fn cases_of(rt: HostRuntime, kind: Cases, name: &[u8], file: File) -> io::Result<()> {
     let output = rt.stdout();
     let mut source = Source::new(file);
@@ -56,6 +57,7 @@ fn cases_of(rt: HostRuntime, kind: Cases, name: &[u8], file: File) -> io::Result
 }
 
 // Opens the file of this name to read it. A name that is no text is no file's.
+#[inline(never)]
 fn open(rt: HostRuntime, name: &[u8]) -> io::Result<File> {
     match str::from_utf8(name) {
         Ok(path) => File::open(&rt, path),
@@ -63,19 +65,26 @@ fn open(rt: HostRuntime, name: &[u8]) -> io::Result<File> {
     }
 }
 
-// Answers the file of this name; what the shipped program reads is answered by its body. It fails where a write does.
+// Answers what the shipped program reads, by its body; a write that fails there does not keep the next file from being answered.
+#[inline(never)]
+fn shipped(mut output: Stdout, mut file: File) {
+    let _ = shell::run(&mut file, &mut output);
+}
+
+// Answers the file of this name; it fails where a write does. Each way is a function that stays apart (`inline(never)`), so that a file
+// asks only for the stack of its own kind.
 pub fn file(rt: HostRuntime, name: &[u8]) -> io::Result<()> {
-    let mut output = rt.stdout();
+    let output = rt.stdout();
     match open(rt, name) {
         Err(error) => {
             complain(rt, name, error);
             out::say(output, "no file: ", name)
         }
-        Ok(mut file) => match kind::of(name) {
+        Ok(file) => match kind::of(name) {
             None => out::say(output, "unknown kind: ", name),
             Some(Kind::Cases(kind)) => cases_of(rt, kind, name, file),
             Some(Kind::Main) => {
-                let _ = shell::run(&mut file, &mut output);
+                shipped(output, file);
                 Ok(())
             }
         },
