@@ -71,8 +71,8 @@ fn shipped(mut output: Stdout, mut file: File) {
     let _ = shell::run(&mut file, &mut output);
 }
 
-// Answers the file of this name; it fails where a write does. Each way is a function that stays apart (`inline(never)`), so that a file
-// asks only for the stack of its own kind.
+// Answers the file of this name; it fails where a write does. What asks for much stack stays apart (`inline(never)`), so that a file
+// asks for that of its own kind alone.
 pub fn file(rt: HostRuntime, name: &[u8]) -> io::Result<()> {
     let output = rt.stdout();
     match open(rt, name) {
